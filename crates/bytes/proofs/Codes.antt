@@ -1,0 +1,107 @@
+-- The table of codes: its rule by computation, and the search through it. Assumes nothing.
+use Prim.Native.Nat.{ℕ, zero, suc, _+_, _≤_, _<_}
+use native.Mathlib.Nat.{not-suc-le-zero, le-of-suc-le-suc, lt-trans}
+use native.Mathlib.Numerals.{add-one}
+use native.Mathlib.Omega.{arith}
+use mathlib.Core.List.{List, [], _∷_}
+use mathlib.Core.Path.{_≡_, refl, sym, ap, _∙_}
+use mathlib.Core.Bool.{Bool, true, false, _&&_, _||_}
+use lib.ListN.{length, getD, drop}
+use lib.Seq.{drop-cons, drop-length}
+use lib.Dec.{T, ltb}
+use lib.IntN.{ℤ, pos, negsuc, natAbs}
+use lib.Signed.{ltZ, nonNeg}
+use mir.Syntax.{w16}
+use mir.Val.{Fits, SFits}
+use borrow.Author.Tests.{eq-eqb, ne-eqb, ltb-true}
+use Rattle.bytes.specs.Products.{codes, member, known, Ascending}
+
+-- ---- ascending
+
+-- the test that is computed: each number is below the next
+abbrev climbs : List ℕ → Bool
+climbs [] = true
+climbs (x ∷ []) = true
+climbs (x ∷ y ∷ s) = ltb x y && climbs (y ∷ s)
+
+both : (a b : Bool) → a && b ≡ true → (a ≡ true) × (b ≡ true)
+both true b h = (refl, h)
+both false b h = let z : _≡_ {A = ℕ} 0 1 = cc in absurd (omega arith)
+
+-- the first is below every later one
+first-below : (x : ℕ) (s : List ℕ) → climbs (x ∷ s) ≡ true → (j : ℕ) → j < length s → x < getD s j 0
+first-below x [] h j k = absurd (not-suc-le-zero k)
+first-below x (y ∷ s) h zero k = ltb-true x y (both _ _ h .0)
+first-below x (y ∷ s) h (suc j) k =
+    lt-trans (ltb-true x y (both _ _ h .0)) (first-below y s (both (ltb x y) _ h .1) j (le-of-suc-le-suc k))
+
+rest-climbs : (x : ℕ) (s : List ℕ) → climbs (x ∷ s) ≡ true → climbs s ≡ true
+rest-climbs x [] h = refl
+rest-climbs x (y ∷ s) h = both (ltb x y) _ h .1
+
+ascends : (s : List ℕ) → climbs s ≡ true → Ascending s
+ascends [] h i j l k = absurd (not-suc-le-zero k)
+ascends (x ∷ s) h i zero l k = absurd (not-suc-le-zero l)
+ascends (x ∷ s) h zero (suc j) l k = first-below x s h j (le-of-suc-le-suc k)
+ascends (x ∷ s) h (suc i) (suc j) l k = ascends s (rest-climbs x s h) i j (le-of-suc-le-suc l) (le-of-suc-le-suc k)
+
+-- the table is ascending, with no repeats
+pub codes-ascending : Ascending codes
+unfolding codes
+codes-ascending = ascends codes refl
+
+-- ---- the search
+
+-- n is none of the first i: what is left says what the whole says
+pub record Searched (n : ℕ) (s : List ℕ) (i : ℕ) : Type 0 where
+  pub within : i ≤ length s
+  pub left : member n (drop i s) ≡ member n s
+
+pub searched-first : (n : ℕ) (s : List ℕ) → Searched n s 0
+searched-first n s = record { within = omega arith; left = refl }
+
+module _ {n : ℕ} {s : List ℕ} {i : ℕ} (w : Searched n s i) where
+  here : i < length s → member n (getD s i 0 ∷ drop (i + 1) s) ≡ member n s
+  here h = rw add-one (rw (← drop-cons s i 0 h) (w .left))
+
+  pub searched-hit : i < length s → n ≡ getD s i 0 → true ≡ member n s
+  unfolding member
+  searched-hit h e = sym (ap (λ b. b || member n (drop (i + 1) s)) (eq-eqb _ _ e)) ∙ here h
+
+  pub searched-next : i < length s → (n ≡ getD s i 0 → ⊥) → Searched n s (i + 1)
+  unfolding member
+  searched-next h e =
+      record { within = omega arith; left = sym (ap (λ b. b || member n (drop (i + 1) s)) (ne-eqb _ _ e)) ∙ here h }
+
+  pub searched-end : length s ≤ i → false ≡ member n s
+  unfolding member
+  searched-end h =
+      let e : i ≡ length s = omega (arith, w .within) in
+      sym (ap (member n) (ap (λ k. drop k s) e ∙ drop-length s)) ∙ w .left
+
+-- ---- the signed code
+
+negative-unknown : (z : ℤ) → ltZ z (pos 0) ≡ true → false ≡ known z
+unfolding known
+negative-unknown (pos n) t = absurd (omega (arith, ltb-true n 0 t))
+negative-unknown (negsuc n) t = refl
+
+code-is : (z : ℤ) → ltZ z (pos 0) ≡ false → member (natAbs z) codes ≡ known z
+unfolding known
+code-is (pos n) t = refl
+code-is (negsuc n) t = let z : _≡_ {A = ℕ} 0 1 = cc in absurd (omega arith)
+
+code-fits : (z : ℤ) → SFits w16 z → ltZ z (pos 0) ≡ false → T (nonNeg z) × Fits w16 (natAbs z)
+code-fits (pos n) f t = (tt, record { fits = omega (arith, f .sfits) })
+code-fits (negsuc n) f t = let z : _≡_ {A = ℕ} 0 1 = cc in absurd (omega arith)
+
+-- y is the machine's reading of z
+module _ {y z : ℤ} (q : y ≡ z) where
+  pub below-zero : ltZ y (pos 0) ≡ true → false ≡ known z
+  below-zero t = negative-unknown z (rw q at t)
+
+  pub cast-code : SFits w16 z → ltZ y (pos 0) ≡ false → T (nonNeg y) × Fits w16 (natAbs y)
+  cast-code f t = code-fits y (rw (← q) at f) t
+
+  pub known-code : ltZ y (pos 0) ≡ false → member (natAbs y) codes ≡ known z
+  known-code t = ap (λ x. member (natAbs x) codes) q ∙ code-is z (rw q at t)

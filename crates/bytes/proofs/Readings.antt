@@ -1,0 +1,38 @@
+-- Laws of readings, for the proofs of code: one reading after another, a test, a part of the body read from its own position 0, and the
+-- walk beside the run. Assumes nothing.
+use Prim.Native.Nat.{ℕ, _+_, _-_}
+use mathlib.Core.List.{List}
+use mathlib.Core.Bool.{Bool, true, false, cond}
+use mathlib.Core.Path.{_≡_, refl, ap, _∙_}
+use lib.ListN.{length}
+use lib.Seq.{slice}
+use Rattle.bytes.specs.Refusal.{Refusal}
+use Rattle.bytes.specs.Result.{Result, accepted, refused}
+use Rattle.bytes.specs.Reading.{Read, Flat, give, stop, left, skip, number, data-row, within, size, valueAt, Ended, halted, onward, past-row, walk, _>>=_, _>>_, refuse-if}
+
+-- ---- the walk
+
+module _ {W A B : Type 0} (f : A → Read W B) where
+  past-onward : (c : Result (List ℕ)) (p : ℕ) (e : Ended A) (k : A → ℕ → Ended B) → past-row c p (onward e k) ≡ onward (past-row c p e) k
+  past-onward (accepted c) p e k = refl
+  past-onward (refused x) p e k = refl
+
+  -- one reading after another
+  pub walk-then : (t : Flat A) (s : List ℕ) (p : ℕ) → walk (t >>= f) s p ≡ onward (walk t s p) (λ a q. walk (f a) s q)
+  unfolding walk _>>=_
+  walk-then (give a) s p = refl
+  walk-then (stop x) s p = refl
+  walk-then (left g) s p = walk-then (g (length s - p)) s p
+  walk-then (skip k t) s p = walk-then t s (p + k)
+  walk-then (number w g) s p = walk-then (g (valueAt w s p)) s (p + size w)
+  walk-then (data-row k row t) s p =
+      ap (past-row (row (slice p (p + k) s)) (p + k)) (walk-then t s (p + k))
+      ∙ past-onward (row (slice p (p + k) s)) (p + k) (walk t s (p + k)) (λ a q. walk (f a) s q)
+  walk-then (within w k t) s p = absurd w
+
+module _ {W A : Type 0} where
+  -- a test that stops the reading or lets it go on
+  pub walk-check : (b : Bool) (x : Refusal) (f : Unit {0} → Read W A) (s : List ℕ) (p : ℕ) → walk (refuse-if b x >>= f) s p ≡ cond b (halted x p) (walk (f tt) s p)
+  unfolding walk refuse-if _>>=_
+  walk-check true x f s p = refl
+  walk-check false x f s p = refl

@@ -1,0 +1,26 @@
+-- products.rs: the known message codes.
+use Prim.Native.Nat.{ℕ, _<_}
+use mathlib.Core.List.{List, [], _∷_}
+use mathlib.Core.Bool.{Bool, false, _||_}
+use lib.ListN.{length, getD}
+use lib.Dec.{eqb}
+use lib.IntN.{ℤ, pos, negsuc}
+
+unfoldable pub codes : List ℕ
+codes =
+    19 ∷ 20 ∷ 25 ∷ 27 ∷ 28 ∷ 30 ∷ 56 ∷ 78 ∷ 79 ∷ 80 ∷ 94 ∷ 99 ∷ 153 ∷ 154 ∷ 155 ∷ 159 ∷ 161 ∷ 163 ∷ 165 ∷ 170 ∷ 172 ∷ 173 ∷ 174
+    ∷ 175 ∷ 176 ∷ 177 ∷ []
+
+-- n is in the list
+unfoldable pub member : ℕ → List ℕ → Bool
+member n [] = false
+member n (x ∷ s) = eqb n x || member n s
+
+-- one of the known codes; no negative number is
+unfoldable pub known : ℤ → Bool
+known (pos n) = member n codes
+known (negsuc n) = false
+
+-- each number is below every later one: ascending, and none stands twice
+abbrev pub Ascending : List ℕ → Type 0
+Ascending s = (i j : ℕ) → i < j → j < length s → getD s i 0 < getD s j 0

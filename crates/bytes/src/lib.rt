@@ -1,0 +1,6 @@
+// What every layer above stands on: big-endian reads, the refusals, the known message codes, f32 of its bits.
+pub mod bytes;
+pub mod error;
+pub mod float;
+pub mod products;
+pub mod text;
