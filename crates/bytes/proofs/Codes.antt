@@ -1,4 +1,4 @@
--- The table of codes: its rule by computation, and the search through it. Assumes nothing.
+-- The table of codes: its rule, by computation, and the signed code. Assumes nothing.
 use Prim.Native.Nat.{ℕ, zero, suc, _+_, _≤_, _<_}
 use native.Mathlib.Nat.{not-suc-le-zero, le-of-suc-le-suc, lt-trans}
 use native.Mathlib.Numerals.{add-one}
@@ -14,7 +14,8 @@ use lib.Signed.{ltZ, nonNeg}
 use mir.Syntax.{w16}
 use mir.Val.{Fits, SFits}
 use borrow.Author.Tests.{eq-eqb, ne-eqb, ltb-true}
-use Rattle.bytes.specs.Products.{codes, member, known, Ascending}
+use Rattle.bytes.specs.Products.{codes, known, Ascending}
+use Rattle.bytes.specs.Text.{member}
 
 -- ---- ascending
 
@@ -49,35 +50,6 @@ ascends (x ∷ s) h (suc i) (suc j) l k = ascends s (rest-climbs x s h) i j (le-
 pub codes-ascending : Ascending codes
 unfolding codes
 codes-ascending = ascends codes refl
-
--- ---- the search
-
--- n is none of the first i: what is left says what the whole says
-pub record Searched (n : ℕ) (s : List ℕ) (i : ℕ) : Type 0 where
-  pub within : i ≤ length s
-  pub left : member n (drop i s) ≡ member n s
-
-pub searched-first : (n : ℕ) (s : List ℕ) → Searched n s 0
-searched-first n s = record { within = omega arith; left = refl }
-
-module _ {n : ℕ} {s : List ℕ} {i : ℕ} (w : Searched n s i) where
-  here : i < length s → member n (getD s i 0 ∷ drop (i + 1) s) ≡ member n s
-  here h = rw add-one (rw (← drop-cons s i 0 h) (w .left))
-
-  pub searched-hit : i < length s → n ≡ getD s i 0 → true ≡ member n s
-  unfolding member
-  searched-hit h e = sym (ap (λ b. b || member n (drop (i + 1) s)) (eq-eqb _ _ e)) ∙ here h
-
-  pub searched-next : i < length s → (n ≡ getD s i 0 → ⊥) → Searched n s (i + 1)
-  unfolding member
-  searched-next h e =
-      record { within = omega arith; left = sym (ap (λ b. b || member n (drop (i + 1) s)) (ne-eqb _ _ e)) ∙ here h }
-
-  pub searched-end : length s ≤ i → false ≡ member n s
-  unfolding member
-  searched-end h =
-      let e : i ≡ length s = omega (arith, w .within) in
-      sym (ap (member n) (ap (λ k. drop k s) e ∙ drop-length s)) ∙ w .left
 
 -- ---- the signed code
 

@@ -1,14 +1,33 @@
--- A walk from the end of a list, which trims it. Assumes nothing.
+-- The ends of a list: what leads, and a walk from the end. Assumes nothing.
 use Prim.Native.Nat.{ℕ, suc, _-_, _≤_, _<_}
 use native.Mathlib.Omega.{arith}
 use mathlib.Core.List.{List, [], _∷_, _++_}
 use mathlib.Core.Path.{_≡_, refl, sym, ap, _∙_}
 use mathlib.Core.Bool.{Bool, true, false, cond}
-use lib.ListN.{length, getD, take}
+use lib.ListN.{length, getD, take, drop, length-take}
 use lib.Seq.{take-suc, take-length, length-take-le}
-use Rattle.bytes.specs.Text.{trimEnd, unless}
+use Rattle.bytes.specs.Text.{trimEnd, trimFront, leading, unless}
 
+-- the front is trimmed by passing what leads
 module _ (p : ℕ → Bool) where
+  pub leading-within : (s : List ℕ) → leading p s ≤ length s
+  unfolding leading
+  leading-within [] = omega arith
+  leading-within (x ∷ s) = go (p x) (leading-within s)
+    where
+      go : (b : Bool) → leading p s ≤ length s → cond b (suc (leading p s)) 0 ≤ suc (length s)
+      go true h = omega arith
+      go false h = omega arith
+
+  pub drop-leading : (s : List ℕ) → drop (leading p s) s ≡ trimFront p s
+  unfolding leading trimFront
+  drop-leading [] = refl
+  drop-leading (x ∷ s) = go (p x) (drop-leading s)
+    where
+      go : (b : Bool) → drop (leading p s) s ≡ trimFront p s → drop (cond b (suc (leading p s)) 0) (x ∷ s) ≡ cond b (trimFront p s) (x ∷ s)
+      go true h = h
+      go false h = refl
+
   -- an element more at the end
   trim-more : (s : List ℕ) (x : ℕ) → p x ≡ true → trimEnd p (s ++ (x ∷ [])) ≡ trimEnd p s
   unfolding trimEnd
@@ -24,7 +43,24 @@ module _ (p : ℕ → Bool) where
       full [] = refl
       full (z ∷ s) = refl
 
--- the first n say what the whole says
+  -- what is left is the front of the whole
+  pub trim-front : (s : List ℕ) → take (length (trimEnd p s)) s ≡ trimEnd p s
+  unfolding trimEnd
+  trim-front [] = refl
+  trim-front (x ∷ s) = go (trimEnd p s) (trim-front s)
+    where
+      last : (b : Bool) → take (length (cond b [] (x ∷ []))) (x ∷ s) ≡ cond b [] (x ∷ [])
+      last true = refl
+      last false = refl
+
+      go : (t : List ℕ) → take (length t) s ≡ t → take (length (unless p x t)) (x ∷ s) ≡ unless p x t
+      go [] h = last (p x)
+      go (y ∷ t) h = ap (λ l. x ∷ l) h
+
+  pub trim-within : (s : List ℕ) → length (trimEnd p s) ≤ length s
+  trim-within s = omega (arith, ap length (trim-front s), length-take (length (trimEnd p s)) s)
+
+-- a walk from the end: the first n say what the whole says
 pub record Back (p : ℕ → Bool) (s : List ℕ) (n : ℕ) : Type 0 where
   pub within : n ≤ length s
   pub left : trimEnd p (take n s) ≡ trimEnd p s
@@ -40,10 +76,7 @@ module _ {p : ℕ → Bool} {s : List ℕ} where
 
   pub back-next : {n : ℕ} → Back p s n → 0 < n → p (getD s (n - 1) 0) ≡ true → Back p s (n - 1)
   back-next b z e =
-      record {
-        within = omega (arith, b .within);
-        left = sym (ap (trimEnd p) (at-last _ _ z (b .within)) ∙ trim-more p _ _ e) ∙ b .left;
-      }
+      record { within = omega (arith, b .within); left = sym (ap (trimEnd p) (at-last _ _ z (b .within)) ∙ trim-more p _ _ e) ∙ b .left }
 
   pub back-stop : {n : ℕ} → Back p s n → 0 < n → p (getD s (n - 1) 0) ≡ false → n ≡ length (trimEnd p s)
   back-stop {n} b z e =

@@ -1,7 +1,7 @@
 pub mod Bytes
 pub mod Float
+pub mod Text
 pub mod Refusal
 pub mod Result
 pub mod Products
-pub mod Text
 pub mod Reading

@@ -5,16 +5,12 @@ use mathlib.Core.Bool.{Bool, false, _||_}
 use lib.ListN.{length, getD}
 use lib.Dec.{eqb}
 use lib.IntN.{ℤ, pos, negsuc}
+use Rattle.bytes.specs.Text.{member}
 
 unfoldable pub codes : List ℕ
 codes =
     19 ∷ 20 ∷ 25 ∷ 27 ∷ 28 ∷ 30 ∷ 56 ∷ 78 ∷ 79 ∷ 80 ∷ 94 ∷ 99 ∷ 153 ∷ 154 ∷ 155 ∷ 159 ∷ 161 ∷ 163 ∷ 165 ∷ 170 ∷ 172 ∷ 173 ∷ 174
     ∷ 175 ∷ 176 ∷ 177 ∷ []
-
--- n is in the list
-unfoldable pub member : ℕ → List ℕ → Bool
-member n [] = false
-member n (x ∷ s) = eqb n x || member n s
 
 -- one of the known codes; no negative number is
 unfoldable pub known : ℤ → Bool

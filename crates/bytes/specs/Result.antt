@@ -1,5 +1,6 @@
 -- What an entry answers: a value, or a refusal; and what a lent buffer holds afterwards.
 use mathlib.Core.List.{List, _++_}
+use mathlib.Core.Bool.{Bool, true, false}
 use lib.ListN.{length, drop}
 use Rattle.bytes.specs.Refusal.{Refusal}
 
@@ -11,6 +12,11 @@ pub data Result (A : Type 0) : Type 0 where
 abbrev pub then : {A B : Type 0} → Result A → (A → Result B) → Result B
 then (accepted a) f = f a
 then (refused x) f = refused x
+
+-- a refusal where the test holds, else what follows
+abbrev pub refuse : {A : Type 0} → Bool → Refusal → Result A → Result A
+refuse true x r = refused x
+refuse false x r = r
 
 -- A lent buffer afterwards: untouched where the answer is a refusal; else the first places hold what the answer gives, and the later
 -- places keep their contents.

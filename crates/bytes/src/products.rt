@@ -1,6 +1,7 @@
 // The known message codes, ascending.
 ghost use mathlib.Core.Path.{_≡_};
-ghost use Rattle.bytes.specs.Products.{codes, known, member};
+ghost use Rattle.bytes.specs.Products.{codes, known};
+ghost use Rattle.bytes.specs.Text.{member};
 
 const CODES: [u16; 26] = [
     19,
