@@ -6,3 +6,4 @@ pub mod Ends
 pub mod Alike
 pub mod Parts
 pub mod Readings
+pub mod Examples

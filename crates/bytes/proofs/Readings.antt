@@ -1,14 +1,21 @@
 -- Laws of readings, for the proofs of code: one reading after another, a test, a part of the body read from its own position 0, and the
 -- walk beside the run. Assumes nothing.
-use Prim.Native.Nat.{ℕ, _+_, _-_}
-use mathlib.Core.List.{List}
+use Prim.Native.Nat.{ℕ, zero, suc, _+_, _-_, _≤_}
+use native.Mathlib.Omega.{arith}
+use mathlib.Core.List.{List, [], _∷_}
 use mathlib.Core.Bool.{Bool, true, false, cond}
-use mathlib.Core.Path.{_≡_, refl, ap, _∙_}
-use lib.ListN.{length}
-use lib.Seq.{slice}
+use mathlib.Core.Path.{_≡_, refl, sym, ap, _∙_}
+use lib.ListN.{length, take, drop}
+use lib.Seq.{slice, take-nil}
 use Rattle.bytes.specs.Refusal.{Refusal}
 use Rattle.bytes.specs.Result.{Result, accepted, refused}
-use Rattle.bytes.specs.Reading.{Read, Flat, give, stop, left, skip, number, data-row, within, size, valueAt, Ended, halted, onward, past-row, walk, _>>=_, _>>_, refuse-if}
+use Rattle.bytes.specs.Reading.{Read, Flat, give, stop, left, skip, number, data-row, within, size, valueAt, Ended, passed, halted, onward, past-row, walk, _>>=_, refuse-if}
+
+-- what is left of the first c + m once c are passed
+pub drop-take : {A : Type 0} (c m : ℕ) (s : List A) → drop c (take (c + m) s) ≡ take m (drop c s)
+drop-take zero m s = let e : 0 + m ≡ m = omega arith in rw e refl
+drop-take (suc c) m [] = ap (drop (suc c)) (take-nil (suc c + m)) ∙ sym (take-nil m)
+drop-take (suc c) m (x ∷ s) = let e : suc c + m ≡ suc (c + m) = omega arith in rw e (drop-take c m s)
 
 -- ---- the walk
 
@@ -36,3 +43,18 @@ module _ {W A : Type 0} where
   unfolding walk refuse-if _>>=_
   walk-check true x f s p = refl
   walk-check false x f s p = refl
+
+module _ {W A B : Type 0} (f : A → Read W B) (t : Flat A) (s : List ℕ) (p : ℕ) where
+  -- the reading after it goes on at its value and position
+  pub then-passed : {a : A} {q : ℕ} → passed a q ≡ walk t s p → walk (t >>= f) s p ≡ walk (f a) s q
+  then-passed e = walk-then f t s p ∙ ap (λ r. onward r (λ a q. walk (f a) s q)) (sym e)
+
+  -- its refusal is the answer
+  pub then-halted : {x : Refusal} {q : ℕ} → halted x q ≡ walk t s p → halted x q ≡ walk (t >>= f) s p
+  then-halted e = sym (walk-then f t s p ∙ ap (λ r. onward r (λ a q. walk (f a) s q)) (sym e))
+
+-- a part of a slice, as a reading has it
+pub part-slice : (s : List ℕ) (a e : ℕ) → a ≤ e → take (e - a) (drop a s) ≡ slice a e s
+part-slice s a e h =
+    let k : a + (e - a) ≡ e = omega arith in
+    sym (ap (λ n. drop a (take n s)) (sym k) ∙ drop-take a (e - a) s)

@@ -4,8 +4,6 @@ use Prim.Native.Nat.{_-_}
 use borrow.Author.Needs.{needs}
 use Rattle.bytes.proofs.text.is_in.Statement.{statement}
 use Rattle.bytes.proofs.text.is_in.Tie as tie
-use Rattle.bytes.proofs.text.is_in.Reads as reads
-use Rattle.bytes.proofs.text.is_in.Lts as lts
 
 abbrev Inv-loop : tie.InvT-loop
 Inv-loop b set i₀ i = Walk (seek b) set i
@@ -13,31 +11,24 @@ Inv-loop b set i₀ i = Walk (seek b) set i
 abbrev μ-loop : tie.MeasureT-loop
 μ-loop b set i₀ i = length set - i
 
--- src/lib.rt:120:5
 loop-holds : tie.Need-loop-holds Inv-loop μ-loop
 loop-holds c = walk-first _ _
 
--- src/lib.rt:121:17
 shared-slice-read-if1 : tie.Need-shared-slice-read-if1 Inv-loop μ-loop
 shared-slice-read-if1 c = search needs
 
--- src/lib.rt:122:13
 returns : tie.Need-returns Inv-loop μ-loop
 returns c = seek-hit _ (c .before .before .before .loop .inv) (c .before .before .loop-test .taken) (c .if1 .taken)
 
--- src/lib.rt:124:9
 add-i : tie.Need-add-i Inv-loop μ-loop
 add-i c = search needs
 
--- src/lib.rt:120:5
 loop-less : tie.Need-loop-less Inv-loop μ-loop
 loop-less c = search needs
 
--- src/lib.rt:120:5
 loop-again : tie.Need-loop-again Inv-loop μ-loop
 loop-again c = seek-next _ (c .before .before .before .loop .inv) (c .before .before .loop-test .taken) (c .if1 .left)
 
--- src/lib.rt:116:1
 returns-2 : tie.Need-returns-2 Inv-loop μ-loop
 returns-2 c = seek-end _ (c .before .loop .inv) (c .loop-test .left)
 

@@ -4,8 +4,6 @@ use Prim.Native.Nat.{_-_}
 use borrow.Author.Needs.{needs}
 use Rattle.bytes.proofs.text.same.Statement.{statement}
 use Rattle.bytes.proofs.text.same.Tie as tie
-use Rattle.bytes.proofs.text.same.Reads as reads
-use Rattle.bytes.proofs.text.same.Lts as lts
 
 abbrev Inv-loop : tie.InvT-loop
 Inv-loop a b i₀ i = Alike a b i
@@ -13,39 +11,30 @@ Inv-loop a b i₀ i = Alike a b i
 abbrev μ-loop : tie.MeasureT-loop
 μ-loop a b i₀ i = length a - i
 
--- src/lib.rt:103:9
 returns : tie.Need-returns Inv-loop μ-loop
 returns c = unlike _ _ (c .if1 .taken)
 
--- src/lib.rt:106:5
 loop-holds : tie.Need-loop-holds Inv-loop μ-loop
 loop-holds c = alike-first _ _ (c .if1 .left)
 
--- src/lib.rt:107:12
 shared-slice-read-if2 : tie.Need-shared-slice-read-if2 Inv-loop μ-loop
 shared-slice-read-if2 c = search needs
 
--- src/lib.rt:107:20
 shared-slice-read-if2-2 : tie.Need-shared-slice-read-if2-2 Inv-loop μ-loop
 shared-slice-read-if2-2 c = search needs
 
--- src/lib.rt:108:13
 returns-2 : tie.Need-returns-2 Inv-loop μ-loop
 returns-2 c = alike-not (c .before .before .before .before .loop .inv) (c .before .before .before .loop-test .taken) (c .if2 .taken)
 
--- src/lib.rt:110:9
 add-i : tie.Need-add-i Inv-loop μ-loop
 add-i c = search needs
 
--- src/lib.rt:106:5
 loop-less : tie.Need-loop-less Inv-loop μ-loop
 loop-less c = search needs
 
--- src/lib.rt:106:5
 loop-again : tie.Need-loop-again Inv-loop μ-loop
 loop-again c = alike-next (c .before .before .before .before .loop .inv) (c .before .before .before .loop-test .taken) (c .if2 .left)
 
--- src/lib.rt:99:1
 returns-3 : tie.Need-returns-3 Inv-loop μ-loop
 returns-3 c = alike-end (c .before .loop .inv) (c .loop-test .left)
 

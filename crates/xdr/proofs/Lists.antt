@@ -1,0 +1,98 @@
+-- Laws of a run of items, each going on from the step before it, and of lists. Assumes nothing.
+use Prim.Native.Nat.{ℕ, zero, suc, _-_, _<_}
+use native.Mathlib.Nat.{not-suc-le-zero}
+use native.Mathlib.Omega.{arith}
+use mathlib.Core.List.{List, _∷_}
+use mathlib.Core.Path.{_≡_, refl, sym, ap, _∙_}
+use Rattle.bytes.specs.Refusal.{Refusal}
+use Rattle.bytes.specs.Reading.{Flat, give, _>>=_, _>>_, Ended, passed, halted, onward, walk}
+use Rattle.bytes.specs.declared.error.XdrItem.the-variants as Item
+use Rattle.bytes.proofs.Readings.{walk-then, then-passed, then-halted}
+use Rattle.xdr.specs.Xdr.{pass, string, parameter, pointer, listHead, further, elements, counted}
+use Rattle.xdr.specs.Answers.{done, stringPart, after}
+
+module _ {A B C : Type 0} (t : Flat A) (f : A → Flat B) (u : Flat C) (s : List ℕ) where
+  -- one reading after another: where it ends does not depend on the value between them
+  pub after-then : ((a : A) (q : ℕ) → done (walk (f a) s q) ≡ done (walk u s q)) → (e : Ended (Unit {0})) → after (t >>= f) s e ≡ after u s (after t s e)
+  unfolding after
+  after-then same (halted x p) = refl
+  after-then same (passed a p) = ap done (walk-then f t s p) ∙ go (walk t s p)
+    where
+      go : (r : Ended A) → done (onward r (λ a q. walk (f a) s q)) ≡ onward (done r) (λ _ q. done (walk u s q))
+      go (passed a q) = same a q
+      go (halted x q) = refl
+
+-- a value worked out of the one that was read
+pub done-given : {A B : Type 0} (t : Flat A) (g : A → B) (s : List ℕ) (p : ℕ) → done (walk {W = ⊥} (t >>= λ a. give (g a)) s p) ≡ done (walk t s p)
+unfolding walk
+done-given {A} t g s p = ap done (walk-then {W = ⊥} (λ a. give (g a)) t s p) ∙ go (walk t s p)
+  where
+    go : (r : Ended A) → done (onward r (λ a q. passed (g a) q)) ≡ done r
+    go (passed a q) = refl
+    go (halted x q) = refl
+
+-- a refused step stays as it is
+pub after-halted : {A : Type 0} (t : Flat A) (s : List ℕ) (x : Refusal) (p : ℕ) → halted x p ≡ after t s (halted x p)
+unfolding after
+after-halted t s x p = refl
+
+pub after-passed : {A : Type 0} (t : Flat A) (s : List ℕ) (p : ℕ) → done (walk t s p) ≡ after t s (passed tt p)
+unfolding after
+after-passed t s p = refl
+
+-- a string's part does not matter
+pub done-string : (s : List ℕ) (p : ℕ) → done (stringPart s p (walk string s p)) ≡ done (walk string s p)
+done-string s p = go (walk string s p)
+  where
+    go : (e : Ended ℕ) → done (stringPart s p e) ≡ done e
+    go (passed a q) = refl
+    go (halted x q) = refl
+
+pub done-unit : (e : Ended (Unit {0})) → done e ≡ e
+done-unit (passed a p) = refl
+done-unit (halted x p) = refl
+
+-- a parameter is two strings
+pub parameter-is : (s : List ℕ) (e : Ended (Unit {0})) → after string s (after string s e) ≡ after parameter s e
+unfolding parameter _>>_
+parameter-is s e = sym (after-then string _ string s (λ a q. done-given string _ s q) e)
+
+-- ---- lists
+
+module _ {A : Type 0} (e : Flat A) (s : List ℕ) where
+  further-rest : (n : ℕ) (a : A) (q : ℕ) → done (walk {W = ⊥} (further e n >>= λ rest. give (a ∷ rest)) s q) ≡ done (walk (further e n) s q)
+  further-rest n a q = done-given (further e n) (λ rest. a ∷ rest) s q
+
+  further-suc : (k : ℕ) (st : Ended (Unit {0})) → after (further e (suc k)) s st ≡ after (further e k) s (after e s (after (pass Item.Int 4) s st))
+  unfolding further pointer _>>_
+  further-suc k st = after-then (pass Item.Int 4) _ _ s (λ a q. refl) st ∙ after-then e _ (further e k) s (further-rest k) _
+
+  -- one element more: a pointer, the element and the rest
+  pub further-more : (k : ℕ) (st : Ended (Unit {0})) → 0 < k → after (further e k) s st ≡ after (further e (k - 1)) s (after e s (after (pass Item.Int 4) s st))
+  further-more zero st h = absurd (not-suc-le-zero h)
+  further-more (suc k) st h = let f : suc k - 1 ≡ k = omega arith in rw f (further-suc k st)
+
+  pub further-none : (k : ℕ) (st : Ended (Unit {0})) → k ≡ 0 → st ≡ after (further e k) s st
+  unfolding further after walk
+  further-none k (passed a p) h = rw h refl
+  further-none k (halted x p) h = refl
+
+  pub elements-none : (k p : ℕ) → k ≡ 0 → passed tt p ≡ done (walk (elements e k) s p)
+  unfolding elements walk
+  elements-none k p h = rw h refl
+
+  elements-suc : (k p : ℕ) → after (further e k) s (after e s (passed tt p)) ≡ done (walk (elements e (suc k)) s p)
+  unfolding elements
+  elements-suc k p = sym (after-passed _ s p ∙ after-then e _ (further e k) s (further-rest k) (passed tt p))
+
+  pub elements-more : (k p : ℕ) → (k ≡ 0 → ⊥) → after (further e (k - 1)) s (after e s (passed tt p)) ≡ done (walk (elements e k) s p)
+  elements-more zero p h = absurd (h refl)
+  elements-more (suc k) p h = let f : suc k - 1 ≡ k = omega arith in rw f (elements-suc k p)
+
+  pub list-halted : (p : ℕ) {x : Refusal} {q : ℕ} → halted x q ≡ walk listHead s p → halted x q ≡ done (walk (counted e) s p)
+  unfolding counted
+  list-halted p h = ap done (then-halted _ listHead s p h)
+
+  pub list-elements : (p : ℕ) {n q : ℕ} → passed n q ≡ walk listHead s p → done (walk (elements e n) s q) ≡ done (walk (counted e) s p)
+  unfolding counted
+  list-elements p h = ap done (sym (then-passed _ listHead s p h))

@@ -1,0 +1,2 @@
+pub mod Xdr
+pub mod Answers

@@ -1,0 +1,3 @@
+// XDR (RFC 4506): the items that symbology packet 28 is made of, read from a payload at a position.
+pub mod steps;
+pub mod xdr;
