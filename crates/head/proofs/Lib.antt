@@ -1,0 +1,7 @@
+pub mod Cut
+pub mod Token
+pub mod Time
+pub mod Search
+pub mod Fields
+pub mod Bounds
+pub mod Examples
