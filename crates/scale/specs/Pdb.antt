@@ -1,5 +1,5 @@
 -- pdb.rs: the scale fields of the description block. Each field that is not inside is 3 with its index.
-use Prim.Native.Nat.{ℕ, _+_}
+use Prim.Native.Nat.{ℕ}
 use mathlib.Core.List.{List, [], _∷_}
 use mathlib.Core.Bool.{not}
 use lib.ListN.{length, replicate, take, drop}

@@ -1,7 +1,7 @@
 -- The physical value of a code under a scheme and the file's bytes: `physicalOf`. A value is minimum + (code - floor) × step.
 use Prim.Native.Nat.{ℕ, _+_, _-_, _≤_}
 use mathlib.Core.List.{List, [], _∷_, map, _++_}
-use mathlib.Core.Bool.{Bool, false, cond, _||_}
+use mathlib.Core.Bool.{cond}
 use lib.ListN.{length, getD, drop}
 use lib.IntN.{pos}
 use lib.Dec.{ltb, eqb}
@@ -78,7 +78,7 @@ physicalOf scheme file block = valued (scaleFields scheme file block) file
 
 -- a buffer whose front holds the values of the codes
 abbrev pub filled : (ℕ → Float) → List ℕ → List Float → List Float
-filled value codes buffer = map value codes ++ drop (length codes) buffer
+filled value codes old = map value codes ++ drop (length codes) old
 
 -- the thresholds of a legacy scaling stand inside the file
 abbrev pub Ready : Scaling → List ℕ → Type 0

@@ -45,7 +45,8 @@ scaled scale offset factor floor ceiling = record {
   «value_min» = whole32 (pos floor) ⊗ (factor ⊘ scale) ⊕ neg offset ⊗ factor ⊘ scale;
   «value_increment» = factor ⊘ scale;
   floor = floor;
-  ceiling = ceiling }
+  ceiling = ceiling;
+}
 
 -- the level count of the precipitation family
 abbrev pub levelCount : ℕ → Ceiling → ℕ
@@ -63,4 +64,5 @@ precipDeclared p = record {
   «value_min» = p .«value_min»;
   «value_increment» = p .«value_increment»;
   «n_levels» = levelCount (p .floor) (p .ceiling);
-  «data_floor_code» = p .floor }
+  «data_floor_code» = p .floor;
+}

@@ -7,7 +7,11 @@ ghost use Rattle.scale.specs.Legacy.{signOf, scaleOf, legacyLevel, level
 fn sign_of(flag: u8) -> f32
     ensures { λ r. ⌜ r ≡ signOf flag ⌝ }
 {
-    if flag / 0x01 % 2 == 1 { -1.0f32 } else { 1.0f32 }
+    if flag / 0x01 % 2 == 1 {
+        -1.0f32
+    } else {
+        1.0f32
+    }
 }
 
 fn scale_of(flag: u8) -> f32

@@ -8,7 +8,8 @@ use head::pdb::I16Field;
 use head::pdb::PairField;
 use head::pdb::U16Field;
 ghost use mathlib.Core.Path.{_≡_};
-ghost use lib.ListN.{length};
+ghost use Prim.Native.Nat.{_+_, _≤_};
+ghost use lib.ListN.{length, take, drop};
 ghost use Rattle.head.specs.Outcome.{place, pairOf};
 ghost use Rattle.scale.specs.Pdb.{scalePair, valueScalingLinearHw, valueScalingFloat, precipFamilyScale, thresholdPlace, thresholdBytes};
 ghost use Rattle.scale.specs.Outcome.{linearOf, precipOf};
@@ -68,7 +69,10 @@ pub fn value_scaling_float(file: &[u8], block: usize) -> LinearScaleRead
     ensures { λ r. ⌜ linearOf r ≡ valueScalingFloat (now (file .entry)) block ⌝ }
 {
     match scale_pair(file, block) {
-        PairField::Value(p) => LinearScaleRead::Value(crate::scaling::linear_float(p.scale, p.offset)),
+        PairField::Value(p) => LinearScaleRead::Value(crate::scaling::linear_float(
+            p.scale,
+            p.offset,
+        )),
         PairField::Refused(e) => LinearScaleRead::Refused(e),
     }
 }
@@ -94,7 +98,13 @@ pub fn precip_family_scale(file: &[u8], block: usize, factor: f32) -> PrecipScal
     };
     let floor = crate::scaling::floor_of(largest, leading, trailing);
     let ceiling = crate::scaling::ceiling_of(largest, leading, trailing);
-    PrecipScaleRead::Value(crate::scaling::scaled_by(pair.scale, pair.offset, factor, floor, ceiling))
+    PrecipScaleRead::Value(crate::scaling::scaled_by(
+        pair.scale,
+        pair.offset,
+        factor,
+        floor,
+        ceiling,
+    ))
 }
 
 // A copy of the 32 bytes from place k on.
@@ -117,7 +127,13 @@ pub fn threshold_data(file: &[u8], block: usize) -> ThresholdRead
 {
     let at = head::pdb::field_at(file.len(), block, 22, 32);
     match at {
-        Place::At(k) => ThresholdRead { place: Place::At(k), data: copy_32(file, k) },
-        Place::Refused(e) => ThresholdRead { place: Place::Refused(e), data: [0u8; 32] },
+        Place::At(k) => ThresholdRead {
+            place: Place::At(k),
+            data: copy_32(file, k),
+        },
+        Place::Refused(e) => ThresholdRead {
+            place: Place::Refused(e),
+            data: [0u8; 32],
+        },
     }
 }

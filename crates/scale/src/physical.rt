@@ -6,11 +6,12 @@ use crate::scaling::PrecipScale;
 use bytes::error::Buffer;
 use bytes::error::Level3DecodeError;
 ghost use mathlib.Core.Path.{_≡_};
-ghost use Prim.Native.Nat.{_+_, _≤_};
+ghost use Prim.Native.Nat.{_≤_};
 ghost use lib.ListN.{length};
-ghost use Rattle.bytes.specs.Result.{lent};
+ghost use Rattle.bytes.specs.Result.{accepted, then, lent};
+ghost use Rattle.scale.specs.Pdb.{thresholdPlace};
 ghost use Rattle.scale.specs.Physical.{openValue, cappedValue, classValue, levelOf, precipValue, valueOf, filled, scaleFields, declaredScale, fillOf, Ready};
-ghost use Rattle.scale.specs.Outcome.{scalingOf, declaredScaleOf, filledOf};
+ghost use Rattle.scale.specs.Outcome.{linearOf, precipOf, scalingOf, declaredScaleOf, filledOf};
 
 // How raw codes are coded.
 pub enum Scheme {
@@ -51,7 +52,7 @@ pub enum Filled {
 }
 
 fn linear_fields(r: crate::pdb::LinearScaleRead) -> ScalingRead
-    ensures { λ s. ⌜ scalingOf s ≡ then (linearOf r) (λ x. accepted (Linear x)) ⌝ }
+    ensures { λ s. ⌜ scalingOf s ≡ then (linearOf r) (λ x. accepted (Scaling.Linear x)) ⌝ }
 {
     match r {
         crate::pdb::LinearScaleRead::Value(s) => ScalingRead::Value(Scaling::Linear(s)),
@@ -60,7 +61,7 @@ fn linear_fields(r: crate::pdb::LinearScaleRead) -> ScalingRead
 }
 
 fn precip_fields(r: crate::pdb::PrecipScaleRead) -> ScalingRead
-    ensures { λ s. ⌜ scalingOf s ≡ then (precipOf r) (λ x. accepted (Precip x)) ⌝ }
+    ensures { λ s. ⌜ scalingOf s ≡ then (precipOf r) (λ x. accepted (Scaling.Precip x)) ⌝ }
 {
     match r {
         crate::pdb::PrecipScaleRead::Value(p) => ScalingRead::Value(Scaling::Precip(p)),
@@ -69,7 +70,7 @@ fn precip_fields(r: crate::pdb::PrecipScaleRead) -> ScalingRead
 }
 
 fn legacy_fields(file: &[u8], block: usize, post_scale: f32) -> ScalingRead
-    ensures { λ s. ⌜ scalingOf s ≡ then (thresholdPlace (now (file .entry)) block) (λ k. accepted (Legacy k «post_scale»)) ⌝ }
+    ensures { λ s. ⌜ scalingOf s ≡ then (thresholdPlace (now (file .entry)) block) (λ k. accepted (Scaling.Legacy k «post_scale»)) ⌝ }
 {
     match head::pdb::field_at(file.len(), block, 22, 32) {
         head::header::Place::At(k) => ScalingRead::Value(Scaling::Legacy { at: k, post_scale }),
@@ -84,7 +85,11 @@ pub fn scale_fields(scheme: Scheme, file: &[u8], block: usize) -> ScalingRead
     match scheme {
         Scheme::Halfword => linear_fields(crate::pdb::value_scaling_linear_hw(file, block)),
         Scheme::Float => linear_fields(crate::pdb::value_scaling_float(file, block)),
-        Scheme::Precipitation { factor } => precip_fields(crate::pdb::precip_family_scale(file, block, factor)),
+        Scheme::Precipitation { factor } => precip_fields(crate::pdb::precip_family_scale(
+            file,
+            block,
+            factor,
+        )),
         Scheme::Legacy { post_scale } => legacy_fields(file, block, post_scale),
         Scheme::Class => ScalingRead::Value(Scaling::Class),
     }
@@ -100,9 +105,14 @@ pub fn declared_scale(v: Scaling) -> DeclaredScaleRead
             crate::scaling::DeclaredRead::Refused(e) => DeclaredScaleRead::Refused(e),
         },
         Scaling::Precip(p) => {
-            DeclaredScaleRead::Value(Declared::Scale(crate::scaling::precip_family_declared_scale(p)))
+            DeclaredScaleRead::Value(Declared::Scale(crate::scaling::precip_family_declared_scale(
+                p,
+            )))
         }
-        Scaling::Legacy { at: _, post_scale: _ } => DeclaredScaleRead::Value(Declared::Absent),
+        Scaling::Legacy {
+            at: _,
+            post_scale: _,
+        } => DeclaredScaleRead::Value(Declared::Absent),
         Scaling::Class => DeclaredScaleRead::Value(Declared::Absent),
     }
 }
@@ -133,7 +143,11 @@ fn capped_value(min: f32, step: f32, floor: u16, top: u16, code: u16) -> f32
 pub fn class_int_physical(code: u16) -> f32
     ensures { λ r. ⌜ r ≡ classValue code ⌝ }
 {
-    if code == 0 { bytes::float::nan32() } else { code as f32 }
+    if code == 0 {
+        bytes::float::nan32()
+    } else {
+        code as f32
+    }
 }
 
 // The level of a code, of the sixteen there are.
@@ -198,10 +212,23 @@ fn fill_precip(p: PrecipScale, codes: &[u16], physical: &mut [f32])
     let ceiling = p.ceiling;
     match ceiling {
         Ceiling::At(top) => {
-            fill_capped(p.value_min, p.value_increment, p.floor as u16, top, codes, physical);
+            fill_capped(
+                p.value_min,
+                p.value_increment,
+                p.floor as u16,
+                top,
+                codes,
+                physical,
+            );
         }
         Ceiling::Absent => {
-            fill_open(p.value_min, p.value_increment, p.floor as u16, codes, physical);
+            fill_open(
+                p.value_min,
+                p.value_increment,
+                p.floor as u16,
+                codes,
+                physical,
+            );
         }
     }
 }
@@ -229,7 +256,13 @@ fn fill(v: Scaling, file: &[u8], codes: &[u16], physical: &mut [f32])
 }
 
 // Writes the physical values of the codes to the front of the buffer: 3, 7, 8 as the scale fields have them, then 36.
-pub fn fill_physical(scheme: Scheme, file: &[u8], block: usize, codes: &[u16], physical: &mut [f32]) -> Filled
+pub fn fill_physical(
+    scheme: Scheme,
+    file: &[u8],
+    block: usize,
+    codes: &[u16],
+    physical: &mut [f32],
+) -> Filled
     ensures { λ r. ⌜ filledOf r ≡ then (fillOf scheme (now (file .entry)) block (now (codes .entry)) (length (now (physical .entry)))) (λ _. accepted tt) ⌝ }
     ensures { λ r. ⌜ now (physical .exit) ≡ lent (fillOf scheme (now (file .entry)) block (now (codes .entry)) (length (now (physical .entry)))) (λ values. values) (now (physical .entry)) ⌝ }
 {
@@ -238,7 +271,9 @@ pub fn fill_physical(scheme: Scheme, file: &[u8], block: usize, codes: &[u16], p
         ScalingRead::Refused(e) => return Filled::Refused(e),
     };
     if physical.len() < codes.len() {
-        return Filled::Refused(Level3DecodeError::BufferTooShort { buffer: Buffer::Physical });
+        return Filled::Refused(Level3DecodeError::BufferTooShort {
+            buffer: Buffer::Physical,
+        });
     }
     fill(v, file, codes, physical);
     Filled::Done

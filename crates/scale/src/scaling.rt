@@ -2,8 +2,7 @@
 // Each f32 operation rounds once, in the written order.
 use bytes::error::Level3DecodeError;
 ghost use mathlib.Core.Path.{_≡_};
-ghost use Prim.Native.Nat.{_-_, _+_, min};
-ghost use lib.IntN.{pos};
+ghost use Prim.Native.Nat.{_-_};
 ghost use lib.Ieee.Scale.{finite};
 ghost use Rattle.scale.specs.Scaling.{linearHw, linearFloat, usable, floorOf, ceilingOf, scaled, levelCount, linearDeclared, precipDeclared};
 ghost use Rattle.scale.specs.Outcome.{declaredOf};
@@ -53,10 +52,11 @@ pub fn is_finite(x: f32) -> bool
 pub fn is_usable(scale: f32) -> bool
     ensures { λ r. ⌜ r ≡ usable scale ⌝ }
 {
-    if !is_finite(scale) {
-        return false;
+    if is_finite(scale) {
+        scale != 0.0
+    } else {
+        false
     }
-    scale != 0.0
 }
 
 // Halfwords 22 and 23 in tenths, 24 the level count.
