@@ -48,7 +48,7 @@ pub enum FieldsRead {
 }
 
 // The place of field `index`, which takes `width` bytes, in a file of `len` bytes.
-fn field_at(len: usize, block: usize, index: usize, width: usize) -> Place
+pub fn field_at(len: usize, block: usize, index: usize, width: usize) -> Place
     ensures { λ r. ⌜ place r ≡ fieldAt len block index width ⌝ }
 {
     if index == 0 {

@@ -1,0 +1,6 @@
+pub mod Finite
+pub mod Mapped
+pub mod Levels
+pub mod Copied
+pub mod Filling
+pub mod Examples

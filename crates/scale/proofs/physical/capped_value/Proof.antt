@@ -1,0 +1,19 @@
+use borrow.Author.Tests.{lt-ltb, le-ltb}
+use borrow.Author.Needs.{needs}
+use Rattle.scale.proofs.physical.capped_value.Statement.{statement}
+use Rattle.scale.proofs.physical.capped_value.Tie as tie
+
+nan32-requires : tie.Need-nan32-requires
+nan32-requires c κs = search needs
+
+open-value-requires : tie.Need-open-value-requires
+open-value-requires c κs = search needs
+
+returns : tie.Need-returns
+returns c = simp (lt-ltb _ _ (c .before .if1 .taken)) (c .nan32 .ensures)
+
+returns-2 : tie.Need-returns-2
+returns-2 c = simp (le-ltb _ _ (c .before .if1 .left)) (c .open-value .ensures)
+
+pub capped-value-spec : {M : Type 1} → statement M
+capped-value-spec = tie.close (tie.spec nan32-requires open-value-requires returns returns-2)

@@ -1,0 +1,25 @@
+use Rattle.scale.specs.Pdb.{thresholdPlace}
+use borrow.Author.Needs.{needs}
+use Rattle.scale.proofs.physical.legacy_fields.Statement.{statement}
+use Rattle.scale.proofs.physical.legacy_fields.Tie as tie
+
+field-at-requires : tie.Need-field-at-requires
+field-at-requires c κs = search needs
+
+enum-known-k : tie.Need-enum-known-k
+enum-known-k c = search needs
+
+enum-known-e : tie.Need-enum-known-e
+enum-known-e c = search needs
+
+returns : tie.Need-returns
+unfolding thresholdPlace
+returns c = rw (← (c .before .before .before .field-at .ensures), c .before .k .given .1)
+
+returns-2 : tie.Need-returns-2
+unfolding thresholdPlace
+returns-2 c = rw (← (c .before .before .before .field-at .ensures), c .before .e .given .1)
+
+pub legacy-fields-spec : {M : Type 1} → statement M
+legacy-fields-spec =
+    tie.close (tie.spec field-at-requires enum-known-k enum-known-e returns returns-2)

@@ -1,0 +1,5 @@
+pub mod Scaling
+pub mod Legacy
+pub mod Outcome
+pub mod Pdb
+pub mod Physical

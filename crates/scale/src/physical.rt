@@ -1,0 +1,280 @@
+// The physical value of a code under a scheme and the file's bytes, and a buffer filled with the values of a list of codes.
+use crate::scaling::Ceiling;
+use crate::scaling::DeclaredLinearScale;
+use crate::scaling::LinearScale;
+use crate::scaling::PrecipScale;
+use bytes::error::Buffer;
+use bytes::error::Level3DecodeError;
+ghost use mathlib.Core.Path.{_≡_};
+ghost use Prim.Native.Nat.{_≤_};
+ghost use lib.ListN.{length};
+ghost use Rattle.bytes.specs.Result.{accepted, then, lent};
+ghost use Rattle.scale.specs.Pdb.{thresholdPlace};
+ghost use Rattle.scale.specs.Physical.{openValue, cappedValue, classValue, levelOf, precipValue, valueOf, filled, scaleFields, declaredScale, fillOf, Ready};
+ghost use Rattle.scale.specs.Outcome.{linearOf, precipOf, scalingOf, declaredScaleOf, filledOf};
+
+// How raw codes are coded.
+pub enum Scheme {
+    Halfword,
+    Float,
+    Precipitation { factor: f32 },
+    Legacy { post_scale: f32 },
+    Class,
+}
+
+// What is needed to value codes: the scale fields, read. Legacy has the place of its thresholds in the file.
+pub enum Scaling {
+    Linear(LinearScale),
+    Precip(PrecipScale),
+    Legacy { at: usize, post_scale: f32 },
+    Class,
+}
+
+pub enum ScalingRead {
+    Value(Scaling),
+    Refused(Level3DecodeError),
+}
+
+// Legacy and class declare no scale.
+pub enum Declared {
+    Scale(DeclaredLinearScale),
+    Absent,
+}
+
+pub enum DeclaredScaleRead {
+    Value(Declared),
+    Refused(Level3DecodeError),
+}
+
+pub enum Filled {
+    Done,
+    Refused(Level3DecodeError),
+}
+
+fn linear_fields(r: crate::pdb::LinearScaleRead) -> ScalingRead
+    ensures { λ s. ⌜ scalingOf s ≡ then (linearOf r) (λ x. accepted (Scaling.Linear x)) ⌝ }
+{
+    match r {
+        crate::pdb::LinearScaleRead::Value(s) => ScalingRead::Value(Scaling::Linear(s)),
+        crate::pdb::LinearScaleRead::Refused(e) => ScalingRead::Refused(e),
+    }
+}
+
+fn precip_fields(r: crate::pdb::PrecipScaleRead) -> ScalingRead
+    ensures { λ s. ⌜ scalingOf s ≡ then (precipOf r) (λ x. accepted (Scaling.Precip x)) ⌝ }
+{
+    match r {
+        crate::pdb::PrecipScaleRead::Value(p) => ScalingRead::Value(Scaling::Precip(p)),
+        crate::pdb::PrecipScaleRead::Refused(e) => ScalingRead::Refused(e),
+    }
+}
+
+fn legacy_fields(file: &[u8], block: usize, post_scale: f32) -> ScalingRead
+    ensures { λ s. ⌜ scalingOf s ≡ then (thresholdPlace (now (file .entry)) block) (λ k. accepted (Scaling.Legacy k «post_scale»)) ⌝ }
+{
+    match head::pdb::field_at(file.len(), block, 22, 32) {
+        head::header::Place::At(k) => ScalingRead::Value(Scaling::Legacy { at: k, post_scale }),
+        head::header::Place::Refused(e) => ScalingRead::Refused(e),
+    }
+}
+
+// The scale fields of a scheme: 3, 7, 8.
+pub fn scale_fields(scheme: Scheme, file: &[u8], block: usize) -> ScalingRead
+    ensures { λ r. ⌜ scalingOf r ≡ scaleFields scheme (now (file .entry)) block ⌝ }
+{
+    match scheme {
+        Scheme::Halfword => linear_fields(crate::pdb::value_scaling_linear_hw(file, block)),
+        Scheme::Float => linear_fields(crate::pdb::value_scaling_float(file, block)),
+        Scheme::Precipitation { factor } => precip_fields(crate::pdb::precip_family_scale(
+            file,
+            block,
+            factor,
+        )),
+        Scheme::Legacy { post_scale } => legacy_fields(file, block, post_scale),
+        Scheme::Class => ScalingRead::Value(Scaling::Class),
+    }
+}
+
+// The scale that is declared: 9.
+pub fn declared_scale(v: Scaling) -> DeclaredScaleRead
+    ensures { λ r. ⌜ declaredScaleOf r ≡ declaredScale v ⌝ }
+{
+    match v {
+        Scaling::Linear(s) => match crate::scaling::linear_declared_scale(s) {
+            crate::scaling::DeclaredRead::Value(d) => DeclaredScaleRead::Value(Declared::Scale(d)),
+            crate::scaling::DeclaredRead::Refused(e) => DeclaredScaleRead::Refused(e),
+        },
+        Scaling::Precip(p) => {
+            DeclaredScaleRead::Value(Declared::Scale(crate::scaling::precip_family_declared_scale(
+                p,
+            )))
+        }
+        Scaling::Legacy {
+            at: _,
+            post_scale: _,
+        } => DeclaredScaleRead::Value(Declared::Absent),
+        Scaling::Class => DeclaredScaleRead::Value(Declared::Absent),
+    }
+}
+
+// Linear from the floor on.
+fn open_value(min: f32, step: f32, floor: u16, code: u16) -> f32
+    ensures { λ r. ⌜ r ≡ openValue min step floor code ⌝ }
+{
+    if code < floor {
+        bytes::float::nan32()
+    } else {
+        min + (code - floor) as f32 * step
+    }
+}
+
+// Linear from the floor to the top.
+fn capped_value(min: f32, step: f32, floor: u16, top: u16, code: u16) -> f32
+    ensures { λ r. ⌜ r ≡ cappedValue min step floor top code ⌝ }
+{
+    if top < code {
+        bytes::float::nan32()
+    } else {
+        open_value(min, step, floor, code)
+    }
+}
+
+// Class: 0 is NaN.
+pub fn class_int_physical(code: u16) -> f32
+    ensures { λ r. ⌜ r ≡ classValue code ⌝ }
+{
+    if code == 0 {
+        bytes::float::nan32()
+    } else {
+        code as f32
+    }
+}
+
+// The level of a code, of the sixteen there are.
+fn level_of(levels: &[f32; 16], code: u16) -> f32
+    ensures { λ r. ⌜ r ≡ levelOf (now (levels .entry)) code ⌝ }
+{
+    if code < 16 {
+        levels[code as usize]
+    } else {
+        bytes::float::nan32()
+    }
+}
+
+fn fill_open(min: f32, step: f32, floor: u16, codes: &[u16], physical: &mut [f32])
+    requires { ⌜ length (now codes) ≤ length (now physical) ⌝ }
+    ensures { λ _. ⌜ now (physical .exit) ≡ filled (openValue min step floor) (now (codes .entry)) (now (physical .entry)) ⌝ }
+{
+    let mut i = 0usize;
+    while i < codes.len() {
+        physical[i] = open_value(min, step, floor, codes[i]);
+        i += 1usize;
+    }
+}
+
+fn fill_capped(min: f32, step: f32, floor: u16, top: u16, codes: &[u16], physical: &mut [f32])
+    requires { ⌜ length (now codes) ≤ length (now physical) ⌝ }
+    ensures { λ _. ⌜ now (physical .exit) ≡ filled (cappedValue min step floor top) (now (codes .entry)) (now (physical .entry)) ⌝ }
+{
+    let mut i = 0usize;
+    while i < codes.len() {
+        physical[i] = capped_value(min, step, floor, top, codes[i]);
+        i += 1usize;
+    }
+}
+
+fn fill_levels(levels: &[f32; 16], codes: &[u16], physical: &mut [f32])
+    requires { ⌜ length (now codes) ≤ length (now physical) ⌝ }
+    ensures { λ _. ⌜ now (physical .exit) ≡ filled (levelOf (now (levels .entry))) (now (codes .entry)) (now (physical .entry)) ⌝ }
+{
+    let mut i = 0usize;
+    while i < codes.len() {
+        physical[i] = level_of(levels, codes[i]);
+        i += 1usize;
+    }
+}
+
+fn fill_class(codes: &[u16], physical: &mut [f32])
+    requires { ⌜ length (now codes) ≤ length (now physical) ⌝ }
+    ensures { λ _. ⌜ now (physical .exit) ≡ filled classValue (now (codes .entry)) (now (physical .entry)) ⌝ }
+{
+    let mut i = 0usize;
+    while i < codes.len() {
+        physical[i] = class_int_physical(codes[i]);
+        i += 1usize;
+    }
+}
+
+fn fill_precip(p: PrecipScale, codes: &[u16], physical: &mut [f32])
+    requires { ⌜ length (now codes) ≤ length (now physical) ⌝ }
+    ensures { λ _. ⌜ now (physical .exit) ≡ filled (precipValue p) (now (codes .entry)) (now (physical .entry)) ⌝ }
+{
+    let ceiling = p.ceiling;
+    match ceiling {
+        Ceiling::At(top) => {
+            fill_capped(
+                p.value_min,
+                p.value_increment,
+                p.floor as u16,
+                top,
+                codes,
+                physical,
+            );
+        }
+        Ceiling::Absent => {
+            fill_open(
+                p.value_min,
+                p.value_increment,
+                p.floor as u16,
+                codes,
+                physical,
+            );
+        }
+    }
+}
+
+// The scaling is taken apart here, so that each loop has plain numbers alone.
+fn fill(v: Scaling, file: &[u8], codes: &[u16], physical: &mut [f32])
+    requires { ⌜ Ready v (now file) × (length (now codes) ≤ length (now physical)) ⌝ }
+    ensures { λ _. ⌜ now (physical .exit) ≡ filled (valueOf v (now (file .entry))) (now (codes .entry)) (now (physical .entry)) ⌝ }
+{
+    match v {
+        Scaling::Linear(s) => {
+            fill_open(s.value_min, s.value_increment, 2, codes, physical);
+        }
+        Scaling::Precip(p) => {
+            fill_precip(p, codes, physical);
+        }
+        Scaling::Legacy { at, post_scale } => {
+            let levels = crate::legacy16::levels_at(file, at, post_scale);
+            fill_levels(&levels, codes, physical);
+        }
+        Scaling::Class => {
+            fill_class(codes, physical);
+        }
+    }
+}
+
+// Writes the physical values of the codes to the front of the buffer: 3, 7, 8 as the scale fields have them, then 36.
+pub fn fill_physical(
+    scheme: Scheme,
+    file: &[u8],
+    block: usize,
+    codes: &[u16],
+    physical: &mut [f32],
+) -> Filled
+    ensures { λ r. ⌜ filledOf r ≡ then (fillOf scheme (now (file .entry)) block (now (codes .entry)) (length (now (physical .entry)))) (λ _. accepted tt) ⌝ }
+    ensures { λ r. ⌜ now (physical .exit) ≡ lent (fillOf scheme (now (file .entry)) block (now (codes .entry)) (length (now (physical .entry)))) (λ values. values) (now (physical .entry)) ⌝ }
+{
+    let v = match scale_fields(scheme, file, block) {
+        ScalingRead::Value(v) => v,
+        ScalingRead::Refused(e) => return Filled::Refused(e),
+    };
+    if physical.len() < codes.len() {
+        return Filled::Refused(Level3DecodeError::BufferTooShort {
+            buffer: Buffer::Physical,
+        });
+    }
+    fill(v, file, codes, physical);
+    Filled::Done
+}
