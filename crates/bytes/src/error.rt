@@ -114,17 +114,17 @@ pub enum Level3DecodeError {
     },
     XdrRadialBinCountMismatch {
         radial: usize,
-        n_bins: i32,
-        expected: i32,
+        n_bins: usize,
+        expected: usize,
     },
     XdrRadialDataLengthMismatch {
         radial: usize,
         declared: usize,
-        num_bins: i32,
+        num_bins: usize,
     },
     XdrGridTooLarge {
-        n_radials: i32,
-        n_bins: i32,
+        n_radials: usize,
+        n_bins: usize,
         cells: usize,
         max: usize,
     },

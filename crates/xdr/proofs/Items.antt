@@ -99,21 +99,14 @@ module _ (s : List ℕ) (p n : ℕ) where
     pub body-inside : p ≤ length s → (p ≤ end) × (end ≤ length s)
     body-inside h = let k = pass-end Item.StringBody n s p end whole in (omega (arith, k .0), omega (arith, k .0, k .1))
 
-past-array : (x y : Refusal) (v q : ℕ) (b c : Bool)
-    → onward (cond b (halted x q) (cond c (halted y q) (passed v q))) (λ n r. passed n (r + n * 4))
-    ≡ cond b (halted x q) (onward (cond c (halted y q) (on (q + v * 4))) (λ _ r. passed v r))
-past-array x y v q true c = refl
-past-array x y v q false true = refl
-past-array x y v q false false = refl
-
 module _ (s : List ℕ) (p : ℕ) where
   pub string-cut : {x : Refusal} {q : ℕ} → halted x q ≡ walk uint s p → halted x q ≡ stringPart s p (walk string s p)
   unfolding string
   string-cut e = ap (stringPart s p) (then-halted _ uint s p e)
 
-  pub array-cut : {x : Refusal} {q : ℕ} → halted x q ≡ walk uint s p → halted x q ≡ arrayPart p (walk intArray s p)
-  unfolding intArray arrayCount
-  array-cut e = ap (arrayPart p) (then-halted _ arrayCount s p (then-halted _ uint s p e))
+  pub array-count-cut : {x : Refusal} {q : ℕ} → halted x q ≡ walk uint s p → halted x q ≡ walk arrayCount s p
+  unfolding arrayCount
+  array-count-cut e = then-halted _ uint s p e
 
   module _ {v q : ℕ} (known : passed v q ≡ walk uint s p) where
     pub uint-end : (q ≡ p + 4) × (q ≤ length s)
@@ -147,23 +140,47 @@ module _ (s : List ℕ) (p : ℕ) where
         ∙ walk-check (ltb 100000 v) _ _ s q
         ∙ ap (cond (ltb 100000 v) (halted (kind 25 (nat v ∷ nat 100000 ∷ [])) q)) (walk-check (ltb (length s - q) (v * 4)) _ _ s q)
 
-    array-is : walk intArray s p ≡ cond (ltb 100000 v) (halted (kind 25 (nat v ∷ nat 100000 ∷ [])) q) (onward (walk (pass Item.ArrayBody (v * 4)) s q) (λ _ r. passed v r))
-    unfolding intArray unread walk _>>=_ _>>_
-    array-is =
-        walk-then (λ n. unread (n * 4) >> give n) arrayCount s p
-        ∙ ap (λ e. onward e (λ n r. passed n (r + n * 4))) count-is
-        ∙ past-array _ _ v q (ltb 100000 v) (ltb (length s - q) (v * 4))
-        ∙ ap (λ e. cond (ltb 100000 v) (halted (kind 25 (nat v ∷ nat 100000 ∷ [])) q) (onward e (λ _ r. passed v r))) (sym (pass-is Item.ArrayBody (v * 4) s q))
+    pub array-count-long : 100000 < v → halted (kind 25 (nat v ∷ nat 100000 ∷ [])) q ≡ walk arrayCount s p
+    array-count-long h = rw count-is (simp (lt-ltb _ _ h))
 
-    pub array-long : 100000 < v → halted (kind 25 (nat v ∷ nat 100000 ∷ [])) q ≡ arrayPart p (walk intArray s p)
-    array-long h = rw array-is (simp (lt-ltb _ _ h))
+    module _ (fits : v ≤ 100000) (have : ℕ) (room : have ≡ length s - q) where
+      pub array-count-short : have < v * 4 → halted (cut Item.ArrayBody have (v * 4)) q ≡ walk arrayCount s p
+      array-count-short h = rw (count-is, ← room) (simp (le-ltb _ _ fits, lt-ltb _ _ h))
 
-    module _ (fits : v ≤ 100000) where
-      pub array-short : {x : Refusal} {r : ℕ} → halted x r ≡ walk (pass Item.ArrayBody (v * 4)) s q → halted x r ≡ arrayPart p (walk intArray s p)
-      array-short e = rw array-is (simp (le-ltb _ _ fits) (rw (← e) refl))
+      pub array-count-whole : v * 4 ≤ have → passed v q ≡ walk arrayCount s p
+      array-count-whole h = rw (count-is, ← room) (simp (le-ltb _ _ fits, le-ltb _ _ h))
 
-      pub array-part : {r : ℕ} → passed tt r ≡ walk (pass Item.ArrayBody (v * 4)) s q → passed (record { start = q; len = v }) r ≡ arrayPart p (walk intArray s p)
-      array-part e = rw array-is (simp (le-ltb _ _ fits) (rw (← e, uint-end .0) refl))
+  -- what an array's count says of its place, and that its body is there
+  pub array-count-end : (n q : ℕ) → passed n q ≡ walk arrayCount s p → (q ≡ p + 4) × (n * 4 ≤ length s - q) × (q ≤ length s)
+  array-count-end n q e = go (walk uint s p) refl
+    where
+      goal : Type 0
+      goal = (q ≡ p + 4) × (n * 4 ≤ length s - q) × (q ≤ length s)
+
+      last : (v r : ℕ) (b c : Bool) → passed v r ≡ walk uint s p → ltb (length s - r) (v * 4) ≡ c
+          → passed n q ≡ cond b (halted (kind 25 (nat v ∷ nat 100000 ∷ [])) r) (cond c (halted (cut Item.ArrayBody (length s - r) (v * 4)) r) (passed v r)) → goal
+      last v r true c k l h = let z : _≡_ {A = ℕ} 0 1 = cc in absurd (omega arith)
+      last v r false true k l h = let z : _≡_ {A = ℕ} 0 1 = cc in absurd (omega arith)
+      last v r false false k l h =
+          let a : n ≡ v = cc in
+          let b : q ≡ r = cc in
+          let u = uint-end k in
+          let w : v * 4 ≤ length s - r = ltb-false _ _ l in
+          (b ∙ u .0, rw (a, b) w, rw b (u .1))
+
+      go : (y : Ended ℕ) → walk uint s p ≡ y → goal
+      go (passed v r) k = last v r (ltb 100000 v) (ltb (length s - r) (v * 4)) (sym k) refl (e ∙ count-is (sym k))
+      go (halted x r) k = let h = e ∙ sym (array-count-cut (sym k)) in let z : _≡_ {A = ℕ} 0 1 = cc in absurd (omega arith)
+
+  pub array-cut : {x : Refusal} {q : ℕ} → halted x q ≡ walk arrayCount s p → halted x q ≡ arrayPart p (walk intArray s p)
+  unfolding intArray
+  array-cut e = ap (arrayPart p) (then-halted _ arrayCount s p e)
+
+  pub array-part : {n q : ℕ} → passed n q ≡ walk arrayCount s p → passed (record { start = q; len = n }) (q + n * 4) ≡ arrayPart p (walk intArray s p)
+  unfolding intArray unread walk _>>=_ _>>_
+  array-part {n} {q} e =
+      ap (λ k. passed (record { start = k; len = n }) (q + n * 4)) (array-count-end n q e .0)
+      ∙ ap (arrayPart p) (sym (then-passed (λ n. unread (n * 4) >> give n) arrayCount s p e))
 
 -- ---- list heads
 

@@ -9,16 +9,16 @@ use Rattle.bytes.specs.Reading.{Flat, give, _>>=_, _>>_, Ended, passed, halted,
 use Rattle.bytes.specs.declared.error.XdrItem.the-variants as Item
 use Rattle.bytes.proofs.Readings.{walk-then, then-passed, then-halted}
 use Rattle.xdr.specs.Xdr.{pass, string, parameter, pointer, listHead, further, elements, counted}
-use Rattle.xdr.specs.Answers.{done, stringPart, after}
+use Rattle.xdr.specs.Answers.{done, stringPart, from, after, valueOr}
 
 module _ {A B C : Type 0} (t : Flat A) (f : A → Flat B) (u : Flat C) (s : List ℕ) where
   -- one reading after another: where it ends does not depend on the value between them
   pub after-then : ((a : A) (q : ℕ) → done (walk (f a) s q) ≡ done (walk u s q)) → (e : Ended (Unit {0})) → after (t >>= f) s e ≡ after u s (after t s e)
-  unfolding after
+  unfolding after from
   after-then same (halted x p) = refl
   after-then same (passed a p) = ap done (walk-then f t s p) ∙ go (walk t s p)
     where
-      go : (r : Ended A) → done (onward r (λ a q. walk (f a) s q)) ≡ onward (done r) (λ _ q. done (walk u s q))
+      go : (r : Ended A) → done (onward r (λ a q. walk (f a) s q)) ≡ done (onward (done r) (λ _ q. walk u s q))
       go (passed a q) = same a q
       go (halted x q) = refl
 
@@ -33,11 +33,11 @@ done-given {A} t g s p = ap done (walk-then {W = ⊥} (λ a. give (g a)) t s p) 
 
 -- a refused step stays as it is
 pub after-halted : {A : Type 0} (t : Flat A) (s : List ℕ) (x : Refusal) (p : ℕ) → halted x p ≡ after t s (halted x p)
-unfolding after
+unfolding after from
 after-halted t s x p = refl
 
 pub after-passed : {A : Type 0} (t : Flat A) (s : List ℕ) (p : ℕ) → done (walk t s p) ≡ after t s (passed tt p)
-unfolding after
+unfolding after from
 after-passed t s p = refl
 
 -- a string's part does not matter
@@ -51,6 +51,25 @@ done-string s p = go (walk string s p)
 pub done-unit : (e : Ended (Unit {0})) → done e ≡ e
 done-unit (passed a p) = refl
 done-unit (halted x p) = refl
+
+pub from-halted : {A : Type 0} (t : Flat A) (s : List ℕ) (x : Refusal) (p : ℕ) → halted x p ≡ from t s (halted x p)
+unfolding from
+from-halted t s x p = refl
+
+pub from-passed : {A : Type 0} (t : Flat A) (s : List ℕ) (p : ℕ) → walk t s p ≡ from t s (passed tt p)
+unfolding from
+from-passed t s p = refl
+
+-- a reading that goes on from another's value. After a refusal any value will do
+pub from-then : {A B : Type 0} (t : Flat A) (f : A → Flat B) (s : List ℕ) (e : Ended (Unit {0})) (d : A)
+    → from (t >>= f) s e ≡ from (f (valueOr d (from t s e))) s (after t s e)
+unfolding after from
+from-then {A} t f s (halted x p) d = refl
+from-then {A} t f s (passed a p) d = walk-then f t s p ∙ go (walk t s p)
+  where
+    go : (r : Ended A) → onward r (λ a q. walk (f a) s q) ≡ onward (done r) (λ _ q. walk (f (valueOr d r)) s q)
+    go (passed a q) = refl
+    go (halted x q) = refl
 
 -- a parameter is two strings
 pub parameter-is : (s : List ℕ) (e : Ended (Unit {0})) → after string s (after string s e) ≡ after parameter s e
@@ -73,7 +92,7 @@ module _ {A : Type 0} (e : Flat A) (s : List ℕ) where
   further-more (suc k) st h = let f : suc k - 1 ≡ k = omega arith in rw f (further-suc k st)
 
   pub further-none : (k : ℕ) (st : Ended (Unit {0})) → k ≡ 0 → st ≡ after (further e k) s st
-  unfolding further after walk
+  unfolding further after from walk
   further-none k (passed a p) h = rw h refl
   further-none k (halted x p) h = refl
 
@@ -96,3 +115,15 @@ module _ {A : Type 0} (e : Flat A) (s : List ℕ) where
   pub list-elements : (p : ℕ) {n q : ℕ} → passed n q ≡ walk listHead s p → done (walk (elements e n) s q) ≡ done (walk (counted e) s p)
   unfolding counted
   list-elements p h = ap done (sym (then-passed _ listHead s p h))
+
+-- ---- a value and the step after it
+
+module _ {A : Type 0} (t : Flat A) (s : List ℕ) (d : A) {u : Ended (Unit {0})} where
+  pub stepped-at : {p : ℕ} {e : Ended A} {v : A} {w : Ended (Unit {0})} → u ≡ passed tt p → e ≡ walk t s p → (v ≡ valueOr d e) × (w ≡ done e)
+      → (v ≡ valueOr d (from t s u)) × (w ≡ after t s u)
+  unfolding after from
+  stepped-at h k q = rw (h, ← k) q
+
+  pub stepped-halted : {x : Refusal} {p : ℕ} → u ≡ halted x p → (d ≡ valueOr d (from t s u)) × (halted x p ≡ after t s u)
+  unfolding after from
+  stepped-halted h = rw h (refl, refl)

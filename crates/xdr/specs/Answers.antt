@@ -69,6 +69,14 @@ stringPart s at = mapped (trimmedPart s (at + 4))
 abbrev pub arrayPart : ℕ → Ended ℕ → Ended Part
 arrayPart at = mapped (λ n. record { start = at + 4; len = n })
 
--- a reading that goes on from a step
+-- a reading that goes on from a step, and where it leads
+unfoldable pub from : {A : Type 0} → Flat A → List ℕ → Ended (Unit {0}) → Ended A
+from t s e = onward e (λ _ p. walk t s p)
+
 unfoldable pub after : {A : Type 0} → Flat A → List ℕ → Ended (Unit {0}) → Ended (Unit {0})
-after t s e = onward e (λ _ p. done (walk t s p))
+after t s e = done (from t s e)
+
+-- its value, or another after a refusal
+abbrev pub valueOr : {A : Type 0} → A → Ended A → A
+valueOr d (passed a p) = a
+valueOr d (halted x p) = d

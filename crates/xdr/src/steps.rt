@@ -1,12 +1,19 @@
 // Items one after another: each goes on from the step before it, and a refused step is handed on as it is.
 use crate::xdr::CountRead;
+use crate::xdr::FloatRead;
+use crate::xdr::IntRead;
 use crate::xdr::PartRead;
 use crate::xdr::Step;
+use bytes::error::Level3DecodeError;
 use bytes::error::XdrItem;
 ghost use mathlib.Core.Path.{_≡_};
-ghost use Rattle.bytes.specs.Reading.{walk};
-ghost use Rattle.xdr.specs.Xdr.{pass, string, parameter, further, elements, counted};
-ghost use Rattle.xdr.specs.Answers.{stepOf, partOf, done, after};
+ghost use mathlib.Core.Bool.{cond};
+ghost use lib.IntN.{pos};
+ghost use Rattle.bytes.specs.Float.{f32};
+ghost use Rattle.bytes.specs.Refusal.{refusalOf};
+ghost use Rattle.bytes.specs.Reading.{walk, onward, passed, halted};
+ghost use Rattle.xdr.specs.Xdr.{pass, float, int, string, arrayCount, listHead, parameter, further, elements, counted};
+ghost use Rattle.xdr.specs.Answers.{stepOf, floatOf, intOf, countOf, partOf, done, from, after, valueOr};
 
 // Past four bytes that are not used.
 pub fn skip_word(buf: &[u8], st: Step, item: XdrItem) -> Step
@@ -33,6 +40,131 @@ pub fn skip_string(buf: &[u8], st: Step) -> Step
     match st {
         Step::At(at) => past_part(crate::xdr::unpack_string(buf, at)),
         Step::Refused { error, at } => Step::Refused { error, at },
+    }
+}
+
+// A value and the step after it: 0 after a refusal.
+pub struct FloatStep {
+    pub value: f32,
+    pub then: Step,
+}
+
+pub struct IntStep {
+    pub value: i32,
+    pub then: Step,
+}
+
+pub struct CountStep {
+    pub value: usize,
+    pub then: Step,
+}
+
+fn float_step(r: FloatRead) -> FloatStep
+    ensures { λ s. ⌜ (s .value ≡ valueOr (f32 0 1) (floatOf r)) × (stepOf (s .then) ≡ done (floatOf r)) ⌝ }
+{
+    match r {
+        FloatRead::Value { value, next } => FloatStep {
+            value,
+            then: Step::At(next),
+        },
+        FloatRead::Refused { error, at } => FloatStep {
+            value: 0.0,
+            then: Step::Refused { error, at },
+        },
+    }
+}
+
+pub fn float_after(buf: &[u8], st: Step) -> FloatStep
+    ensures { λ r. ⌜ (r .value ≡ valueOr (f32 0 1) (from float (now (buf .entry)) (stepOf st))) × (stepOf (r .then) ≡ after float (now (buf .entry)) (stepOf st)) ⌝ }
+{
+    match st {
+        Step::At(at) => float_step(crate::xdr::unpack_float(buf, at)),
+        Step::Refused { error, at } => FloatStep {
+            value: 0.0,
+            then: Step::Refused { error, at },
+        },
+    }
+}
+
+fn int_step(r: IntRead) -> IntStep
+    ensures { λ s. ⌜ (s .value ≡ valueOr (pos 0) (intOf r)) × (stepOf (s .then) ≡ done (intOf r)) ⌝ }
+{
+    match r {
+        IntRead::Value { value, next } => IntStep {
+            value,
+            then: Step::At(next),
+        },
+        IntRead::Refused { error, at } => IntStep {
+            value: 0,
+            then: Step::Refused { error, at },
+        },
+    }
+}
+
+pub fn int_after(buf: &[u8], st: Step) -> IntStep
+    ensures { λ r. ⌜ (r .value ≡ valueOr (pos 0) (from int (now (buf .entry)) (stepOf st))) × (stepOf (r .then) ≡ after int (now (buf .entry)) (stepOf st)) ⌝ }
+{
+    match st {
+        Step::At(at) => int_step(crate::xdr::unpack_int(buf, at)),
+        Step::Refused { error, at } => IntStep {
+            value: 0,
+            then: Step::Refused { error, at },
+        },
+    }
+}
+
+fn count_step(r: CountRead) -> CountStep
+    ensures { λ s. ⌜ (s .value ≡ valueOr 0 (countOf r)) × (stepOf (s .then) ≡ done (countOf r)) ⌝ }
+{
+    match r {
+        CountRead::Value { value, next } => CountStep {
+            value,
+            then: Step::At(next),
+        },
+        CountRead::Refused { error, at } => CountStep {
+            value: 0,
+            then: Step::Refused { error, at },
+        },
+    }
+}
+
+pub fn array_count_after(buf: &[u8], st: Step) -> CountStep
+    ensures { λ r. ⌜ (r .value ≡ valueOr 0 (from arrayCount (now (buf .entry)) (stepOf st))) × (stepOf (r .then) ≡ after arrayCount (now (buf .entry)) (stepOf st)) ⌝ }
+{
+    match st {
+        Step::At(at) => count_step(crate::xdr::array_count(buf, at)),
+        Step::Refused { error, at } => CountStep {
+            value: 0,
+            then: Step::Refused { error, at },
+        },
+    }
+}
+
+pub fn list_head_after(buf: &[u8], st: Step) -> CountStep
+    ensures { λ r. ⌜ (r .value ≡ valueOr 0 (from listHead (now (buf .entry)) (stepOf st))) × (stepOf (r .then) ≡ after listHead (now (buf .entry)) (stepOf st)) ⌝ }
+{
+    match st {
+        Step::At(at) => count_step(crate::xdr::list_head(buf, at)),
+        Step::Refused { error, at } => CountStep {
+            value: 0,
+            then: Step::Refused { error, at },
+        },
+    }
+}
+
+// Refused with the error where the test holds.
+pub fn refuse_if(st: Step, test: bool, error: Level3DecodeError) -> Step
+    ensures { λ r. ⌜ stepOf r ≡ onward (stepOf st) (λ _ p. cond test (halted (refusalOf error) p) (passed tt p)) ⌝ }
+{
+    match st {
+        Step::At(at) => {
+            if test {
+                Step::Refused { error, at }
+            } else {
+                Step::At(at)
+            }
+        }
+        Step::Refused { error: before, at } => Step::Refused { error: before, at },
     }
 }
 

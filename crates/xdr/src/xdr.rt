@@ -6,7 +6,7 @@ ghost use mathlib.Core.Path.{_≡_};
 ghost use Prim.Native.Nat.{_≤_};
 ghost use lib.ListN.{length};
 ghost use Rattle.bytes.specs.Reading.{walk};
-ghost use Rattle.xdr.specs.Xdr.{pass, word, int, uint, float, padding, stringBody, string, intArray, listCount, listHead};
+ghost use Rattle.xdr.specs.Xdr.{pass, word, int, uint, float, padding, stringBody, string, arrayCount, intArray, listCount, listHead};
 ghost use Rattle.xdr.specs.Answers.{stepOf, uintOf, intOf, floatOf, countOf, partOf, bodyPart, stringPart, arrayPart};
 
 const MAX_XDR_STRING_LEN: u32 = 4096;
@@ -162,15 +162,15 @@ pub fn unpack_string(buf: &[u8], at: usize) -> PartRead
     }
 }
 
-// A count of at most 100,000, and as many integers.
-pub fn unpack_int_array(buf: &[u8], at: usize) -> PartRead
-    ensures { λ r. ⌜ partOf r ≡ arrayPart at (walk intArray (now (buf .entry)) at) ⌝ }
+// The count of an integer array, at most 100,000, whose body is there. The position after it is the body's.
+pub fn array_count(buf: &[u8], at: usize) -> CountRead
+    ensures { λ r. ⌜ countOf r ≡ walk arrayCount (now (buf .entry)) at ⌝ }
 {
     match unpack_uint(buf, at) {
-        UintRead::Refused { error, at } => PartRead::Refused { error, at },
+        UintRead::Refused { error, at } => CountRead::Refused { error, at },
         UintRead::Value { value, next } => {
             if MAX_XDR_ARRAY_LEN < value {
-                return PartRead::Refused {
+                return CountRead::Refused {
                     error: Level3DecodeError::XdrArrayTooLong {
                         len: value,
                         max: MAX_XDR_ARRAY_LEN,
@@ -179,14 +179,35 @@ pub fn unpack_int_array(buf: &[u8], at: usize) -> PartRead
                 };
             }
             let len = value as usize;
-            match take(buf, next, XdrItem::ArrayBody, len * 4) {
-                Step::Refused { error, at } => PartRead::Refused { error, at },
-                Step::At(end) => PartRead::Value {
-                    value: Part { start: next, len },
-                    next: end,
-                },
+            let have = bytes::bytes::remaining(buf.len(), next);
+            if have < len * 4 {
+                return CountRead::Refused {
+                    error: Level3DecodeError::XdrTruncated {
+                        context: XdrItem::ArrayBody,
+                        have,
+                        need: len * 4,
+                    },
+                    at: next,
+                };
             }
+            CountRead::Value { value: len, next }
         }
+    }
+}
+
+// An integer array: the place of its first integer, and their number.
+pub fn unpack_int_array(buf: &[u8], at: usize) -> PartRead
+    ensures { λ r. ⌜ partOf r ≡ arrayPart at (walk intArray (now (buf .entry)) at) ⌝ }
+{
+    match array_count(buf, at) {
+        CountRead::Refused { error, at } => PartRead::Refused { error, at },
+        CountRead::Value { value, next } => PartRead::Value {
+            value: Part {
+                start: next,
+                len: value,
+            },
+            next: next + value * 4,
+        },
     }
 }
 
