@@ -6,4 +6,5 @@ pub mod Ends
 pub mod Alike
 pub mod Parts
 pub mod Readings
+pub mod Runs
 pub mod Examples

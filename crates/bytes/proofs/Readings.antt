@@ -9,7 +9,7 @@ use lib.ListN.{length, take, drop}
 use lib.Seq.{slice, take-nil}
 use Rattle.bytes.specs.Refusal.{Refusal}
 use Rattle.bytes.specs.Result.{Result, accepted, refused}
-use Rattle.bytes.specs.Reading.{Read, Flat, give, stop, left, skip, number, data-row, within, size, valueAt, Ended, passed, halted, onward, past-row, walk, _>>=_, refuse-if}
+use Rattle.bytes.specs.Reading.{Read, Flat, give, stop, left, skip, number, data-row, within, size, valueAt, Ended, passed, halted, onward, past-row, walk, _>>=_, _>>_, refuse-if}
 
 -- what is left of the first c + m once c are passed
 pub drop-take : {A : Type 0} (c m : ℕ) (s : List A) → drop c (take (c + m) s) ≡ take m (drop c s)
@@ -58,3 +58,54 @@ pub part-slice : (s : List ℕ) (a e : ℕ) → a ≤ e → take (e - a) (drop a
 part-slice s a e h =
     let k : a + (e - a) ≡ e = omega arith in
     sym (ap (λ n. drop a (take n s)) (sym k) ∙ drop-take a (e - a) s)
+
+-- a test, and what follows where it is passed
+pub walk-checks : {W A : Type 0} (b : Bool) (x : Refusal) (f : Unit {0} → Read W A) (s : List ℕ) (p : ℕ) {y : Ended A} → walk (f tt) s p ≡ y
+    → walk (refuse-if b x >>= f) s p ≡ cond b (halted x p) y
+walk-checks b x f s p h = walk-check b x f s p ∙ ap (cond b (halted x p)) h
+
+-- the same where another reading stands after them
+pub walk-checks-then : {W A B : Type 0} (g : A → Read W B) (b : Bool) (x : Refusal) (f : Unit {0} → Flat A) (s : List ℕ) (p : ℕ) {y : Ended B}
+    → walk (f tt >>= g) s p ≡ y → walk ((refuse-if b x >>= f) >>= g) s p ≡ cond b (halted x p) y
+unfolding walk refuse-if _>>=_
+walk-checks-then g true x f s p h = refl
+walk-checks-then g false x f s p h = h
+
+-- ---- a reading that passed: each of its parts did
+
+module _ {W A B : Type 0} (f : A → Read W B) (t : Flat A) (s : List ℕ) (p : ℕ) where
+  pub record Parts (b : B) (q : ℕ) : Type 0 where
+    pub value : A
+    pub middle : ℕ
+    pub first : passed value middle ≡ walk t s p
+    pub second : passed b q ≡ walk (f value) s middle
+
+  pub parts : {b : B} {q : ℕ} → passed b q ≡ walk (t >>= f) s p → Parts b q
+  parts {b} {q} e = go (walk t s p) refl (e ∙ walk-then f t s p)
+    where
+      go : (r : Ended A) → walk t s p ≡ r → passed b q ≡ onward r (λ a q. walk (f a) s q) → Parts b q
+      go (passed a m) h k = record { value = a; middle = m; first = sym h; second = k }
+      go (halted x m) h k = let z : _≡_ {A = ℕ} 0 1 = cc in absurd (omega arith)
+
+pub passed-check : {W A : Type 0} (b : Bool) (x : Refusal) (u : Read W A) (s : List ℕ) (p : ℕ) {a : A} {q : ℕ} → passed a q ≡ walk (refuse-if b x >> u) s p
+    → (b ≡ false) × (passed a q ≡ walk u s p)
+unfolding _>>_
+passed-check b x u s p {a} {q} e = go b refl (e ∙ walk-check b x (λ _. u) s p)
+  where
+    go : (c : Bool) → b ≡ c → passed a q ≡ cond c (halted x p) (walk u s p) → (b ≡ false) × (passed a q ≡ walk u s p)
+    go true h k = let z : _≡_ {A = ℕ} 0 1 = cc in absurd (omega arith)
+    go false h k = (h, k)
+
+pub walk-give : {A : Type 0} (a : A) (s : List ℕ) (p : ℕ) → walk {W = ⊥} (give a) s p ≡ passed a p
+unfolding walk
+walk-give a s p = refl
+
+-- the same where the value between them is not used
+pub parts-by : {W A B : Type 0} (t : Flat A) (u : Read W B) (s : List ℕ) (p : ℕ) {b : B} {q : ℕ} → passed b q ≡ walk (t >> u) s p → Parts (λ (a : A). u) t s p b q
+unfolding _>>_
+parts-by t u s p e = parts (λ a. u) t s p e
+
+-- what passed was past the test
+pub past-test : {A : Type 0} (b : Bool) (x : Refusal) (m : ℕ) (e : Ended A) {a : A} {q : ℕ} → passed a q ≡ cond b (halted x m) e → (b ≡ false) × (passed a q ≡ e)
+past-test true x m e h = let z : _≡_ {A = ℕ} 0 1 = cc in absurd (omega arith)
+past-test false x m e h = (refl, h)

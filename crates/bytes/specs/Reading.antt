@@ -120,6 +120,11 @@ abbrev pub onward : {A B : Type 0} → Ended A → (A → ℕ → Ended B) → E
 onward (passed a p) f = f a p
 onward (halted x p) f = halted x p
 
+-- its answer
+abbrev pub outcome : {A : Type 0} → Ended A → Result A
+outcome (passed a p) = accepted a
+outcome (halted x p) = refused x
+
 abbrev pub past-row : {A : Type 0} → Result (List ℕ) → ℕ → Ended A → Ended A
 past-row (accepted codes) p e = e
 past-row (refused x) p e = halted x p

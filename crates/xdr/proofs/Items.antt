@@ -18,7 +18,7 @@ use Rattle.bytes.specs.Text.{isZero, trimEnd}
 use Rattle.bytes.specs.declared.error.XdrItem.{XdrItem}
 use Rattle.bytes.specs.declared.error.XdrItem.the-variants as Item
 use Rattle.bytes.proofs.Readings.{walk-then, walk-check, then-passed, then-halted, part-slice}
-use Rattle.xdr.specs.Xdr.{short, pass, word, int, uint, padding, stringBody, string, arrayCount, intArray, pointer, listHead, listCount}
+use Rattle.xdr.specs.Xdr.{short, pass, word, int, uint, padding, stringBody, string, arrayCount, intArray, pointer, listHead, listCount, atLeast0}
 use Rattle.xdr.specs.Answers.{bodyPart, stringPart, arrayPart}
 
 abbrev on : ℕ → Ended (Unit {0})
@@ -200,28 +200,25 @@ module _ (s : List ℕ) (p : ℕ) where
         ap (λ z. listCount z r) k
         ∙ sym (then-passed _ int s p known ∙ then-passed _ (pass Item.Int 4) s q e ∙ walk-check (ltZ (pos 10000) n) _ _ s r)
 
--- y is the machine's reading of the count z
-module _ {y z : ℤ} (known : y ≡ z) (at : ℕ) where
-  pub count-none : leZ y (pos 0) ≡ true → passed 0 at ≡ listCount z at
-  count-none t = none z (rw known at t)
+-- ---- counts: y is the machine's reading of z
+
+module _ {y z : ℤ} (known : y ≡ z) where
+  pub none-below : leZ y (pos 0) ≡ true → 0 ≡ atLeast0 z
+  none-below t = none z (rw known at t)
     where
-      none : (z : ℤ) → leZ z (pos 0) ≡ true → passed 0 at ≡ listCount z at
-      none (pos n) t = let e : n ≡ 0 = omega (arith, leb-true n 0 t) in rw e refl
+      none : (z : ℤ) → leZ z (pos 0) ≡ true → 0 ≡ atLeast0 z
+      none (pos n) t = omega (arith, leb-true n 0 t)
       none (negsuc n) t = refl
 
-  pub count-long : ltZ (pos 10000) y ≡ true → halted (kind 26 (whole y ∷ whole (pos 10000) ∷ [])) at ≡ listCount z at
-  count-long t = rw (← known) (simp t)
-
-  pub count-fits : SFits w32 z → leZ y (pos 0) ≡ false → T (nonNeg y) × Fits w64 (natAbs y)
-  count-fits f t = rw known (fits z f (rw known at t))
+  pub above-fits : SFits w32 z → leZ y (pos 0) ≡ false → (T (nonNeg y) × Fits w64 (natAbs y)) × ((natAbs y ≡ atLeast0 z) × (natAbs y < 2147483648))
+  above-fits f t = rw known (fits z f (rw known at t))
     where
-      fits : (z : ℤ) → SFits w32 z → leZ z (pos 0) ≡ false → T (nonNeg z) × Fits w64 (natAbs z)
-      fits (pos n) f t = (tt, record { fits = omega (arith, f .sfits) })
+      fits : (z : ℤ) → SFits w32 z → leZ z (pos 0) ≡ false → (T (nonNeg z) × Fits w64 (natAbs z)) × ((natAbs z ≡ atLeast0 z) × (natAbs z < 2147483648))
+      fits (pos n) f t = ((tt, record { fits = omega (arith, f .sfits) }), (refl, f .sfits))
       fits (negsuc n) f t = let z : _≡_ {A = ℕ} 0 1 = cc in absurd (omega arith)
 
-  pub count-some : leZ y (pos 0) ≡ false → ltZ (pos 10000) y ≡ false → passed (natAbs y) at ≡ listCount z at
-  count-some t u = rw known (some z (rw known at t) (rw known at u))
-    where
-      some : (z : ℤ) → leZ z (pos 0) ≡ false → ltZ (pos 10000) z ≡ false → passed (natAbs z) at ≡ listCount z at
-      some (pos n) t u = simp u
-      some (negsuc n) t u = let z : _≡_ {A = ℕ} 0 1 = cc in absurd (omega arith)
+  pub count-long : (at : ℕ) → ltZ (pos 10000) y ≡ true → halted (kind 26 (whole y ∷ whole (pos 10000) ∷ [])) at ≡ listCount z at
+  count-long at t = rw (← known) (simp t)
+
+  pub count-value : (at : ℕ) {n : ℕ} → ltZ (pos 10000) y ≡ false → n ≡ atLeast0 y → passed n at ≡ listCount z at
+  count-value at t e = rw (e, ← known) (simp t)

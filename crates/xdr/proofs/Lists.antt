@@ -3,11 +3,12 @@ use Prim.Native.Nat.{ℕ, zero, suc, _-_, _<_}
 use native.Mathlib.Nat.{not-suc-le-zero}
 use native.Mathlib.Omega.{arith}
 use mathlib.Core.List.{List, _∷_}
+use mathlib.Core.Bool.{Bool, true, false, cond}
 use mathlib.Core.Path.{_≡_, refl, sym, ap, _∙_}
 use Rattle.bytes.specs.Refusal.{Refusal}
-use Rattle.bytes.specs.Reading.{Flat, give, _>>=_, _>>_, Ended, passed, halted, onward, walk}
+use Rattle.bytes.specs.Reading.{Flat, give, _>>=_, _>>_, refuse-if, Ended, passed, halted, onward, walk}
 use Rattle.bytes.specs.declared.error.XdrItem.the-variants as Item
-use Rattle.bytes.proofs.Readings.{walk-then, then-passed, then-halted}
+use Rattle.bytes.proofs.Readings.{walk-then, walk-check, then-passed, then-halted}
 use Rattle.xdr.specs.Xdr.{pass, string, parameter, pointer, listHead, further, elements, counted}
 use Rattle.xdr.specs.Answers.{done, stringPart, from, after, valueOr}
 
@@ -127,3 +128,58 @@ module _ {A : Type 0} (t : Flat A) (s : List ℕ) (d : A) {u : Ended (Unit {0})}
   pub stepped-halted : {x : Refusal} {p : ℕ} → u ≡ halted x p → (d ≡ valueOr d (from t s u)) × (halted x p ≡ after t s u)
   unfolding after from
   stepped-halted h = rw h (refl, refl)
+
+-- ---- a run of steps, read from the last to the first: what is left of a reading is the whole, once its first item is passed
+
+module _ {A B : Type 0} (t : Flat A) where
+  pub go-on : (f : A → Flat B) (s : List ℕ) (e : Ended (Unit {0})) (d : A) {v : A} {w : Ended (Unit {0})} {x : Ended B}
+      → (v ≡ valueOr d (from t s e)) × (w ≡ after t s e) → x ≡ from (f v) s w → x ≡ from (t >>= f) s e
+  go-on f s e d h k = k ∙ sym (from-then t f s e d ∙ rw (h .0, h .1) refl)
+
+  from-by : (u : Flat B) (s : List ℕ) (e : Ended (Unit {0})) → from (t >> u) s e ≡ from u s (after t s e)
+  unfolding after from _>>_
+  from-by u s (halted x p) = refl
+  from-by u s (passed a p) = walk-then (λ _. u) t s p ∙ go (walk t s p)
+    where
+      go : (r : Ended A) → onward r (λ a q. walk u s q) ≡ onward (done r) (λ _ q. walk u s q)
+      go (passed a q) = refl
+      go (halted x q) = refl
+
+  pub go-by : (u : Flat B) (s : List ℕ) (e : Ended (Unit {0})) {w : Ended (Unit {0})} {x : Ended B} → w ≡ after t s e → x ≡ from u s w → x ≡ from (t >> u) s e
+  go-by u s e h k = k ∙ ap (from u s) h ∙ sym (from-by u s e)
+
+  pub after-by : (u : Flat B) (s : List ℕ) (e : Ended (Unit {0})) {w x : Ended (Unit {0})} → w ≡ after t s e → x ≡ after u s w → x ≡ after (t >> u) s e
+  unfolding after
+  after-by u s e h k = k ∙ ap (λ y. done (from u s y)) h ∙ sym (ap done (from-by u s e))
+
+abbrev reached : ℕ → Ended (Unit {0})
+reached p = passed tt p
+
+module _ {B : Type 0} (b : Bool) (x : Refusal) (u : Flat B) (s : List ℕ) where
+  from-check : (e : Ended (Unit {0})) → from (refuse-if b x >> u) s e ≡ from u s (onward e (λ _ p. cond b (halted x p) (passed tt p)))
+  unfolding from _>>_
+  from-check (halted y p) = refl
+  from-check (passed a p) = walk-check b x (λ _. u) s p ∙ go b
+    where
+      go : (b : Bool) → cond b (halted x p) (walk u s p) ≡ onward (cond b (halted x p) (reached p)) (λ _ q. walk u s q)
+      go true = refl
+      go false = refl
+
+  pub check-by : (e : Ended (Unit {0})) {w : Ended (Unit {0})} {y : Ended B} → w ≡ onward e (λ _ p. cond b (halted x p) (passed tt p))
+      → y ≡ from u s w → y ≡ from (refuse-if b x >> u) s e
+  check-by e h k = k ∙ ap (from u s) h ∙ sym (from-check e)
+
+pub from-give : {A : Type 0} (a : A) (s : List ℕ) (e : Ended (Unit {0})) → onward e (λ _ p. passed a p) ≡ from (give a) s e
+unfolding from walk
+from-give a s (passed b p) = refl
+from-give a s (halted x p) = refl
+
+pub after-give : (a : Unit {0}) (s : List ℕ) (e : Ended (Unit {0})) → e ≡ after (give a) s e
+unfolding after from walk
+after-give a s (passed b p) = refl
+after-give a s (halted x p) = refl
+
+-- the same where the code's test and refusal are known by equations
+pub check-as : {B : Type 0} (b : Bool) (x : Refusal) (u : Flat B) (s : List ℕ) (e : Ended (Unit {0})) {c : Bool} {z : Refusal} {w : Ended (Unit {0})} {y : Ended B}
+    → c ≡ b → z ≡ x → w ≡ onward e (λ _ p. cond c (halted z p) (passed tt p)) → y ≡ from u s w → y ≡ from (refuse-if b x >> u) s e
+check-as b x u s e {c} {z} p q h k = check-by b x u s e (h ∙ rw (p, q) refl) k

@@ -3,10 +3,10 @@
 use bytes::error::Level3DecodeError;
 use bytes::error::XdrItem;
 ghost use mathlib.Core.Path.{_≡_};
-ghost use Prim.Native.Nat.{_≤_};
+ghost use Prim.Native.Nat.{_≤_, _<_};
 ghost use lib.ListN.{length};
 ghost use Rattle.bytes.specs.Reading.{walk};
-ghost use Rattle.xdr.specs.Xdr.{pass, word, int, uint, float, padding, stringBody, string, arrayCount, intArray, listCount, listHead};
+ghost use Rattle.xdr.specs.Xdr.{pass, word, int, uint, float, padding, stringBody, string, arrayCount, intArray, atLeast0, listCount, listHead};
 ghost use Rattle.xdr.specs.Answers.{stepOf, uintOf, intOf, floatOf, countOf, partOf, bodyPart, stringPart, arrayPart};
 
 const MAX_XDR_STRING_LEN: u32 = 4096;
@@ -211,13 +211,20 @@ pub fn unpack_int_array(buf: &[u8], at: usize) -> PartRead
     }
 }
 
+// A signed number as a count: 0 below 0.
+pub fn at_least_0(n: i32) -> usize
+    ensures { λ r. ⌜ (r ≡ atLeast0 n) × (r < 2147483648) ⌝ }
+{
+    if n <= 0 {
+        return 0;
+    }
+    n as usize
+}
+
 // How many elements a list has by its count: none at or below 0.
 fn list_count(count: i32, at: usize) -> CountRead
     ensures { λ r. ⌜ countOf r ≡ listCount count at ⌝ }
 {
-    if count <= 0 {
-        return CountRead::Value { value: 0, next: at };
-    }
     if MAX_XDR_LIST_LEN < count {
         return CountRead::Refused {
             error: Level3DecodeError::XdrListTooLong {
@@ -228,7 +235,7 @@ fn list_count(count: i32, at: usize) -> CountRead
         };
     }
     CountRead::Value {
-        value: count as usize,
+        value: at_least_0(count),
         next: at,
     }
 }

@@ -1,20 +1,24 @@
-use Rattle.xdr.proofs.Items.{count-none, count-long, count-fits, count-some}
+use Rattle.xdr.proofs.Items.{count-long, count-value}
 use mir.Facts.{toZ-ofZ}
 use mir.Syntax.{w32}
+use borrow.Author.Needs.{needs}
 use Rattle.xdr.proofs.xdr.list_count.Statement.{statement}
 use Rattle.xdr.proofs.xdr.list_count.Tie as tie
+use Rattle.xdr.proofs.xdr.list_count.Reads as reads
+use Rattle.xdr.proofs.xdr.list_count.Lts as lts
+use Rattle.xdr.proofs.xdr.at_least_0.Reads as at-least-0-reads
 
+-- src/xdr.rt:229:9
 returns : tie.Need-returns
-returns c = count-none (toZ-ofZ {w = w32} {z = c .before .args .count} (c .before .fits .count)) _ (c .if1 .taken)
+returns c = count-long (toZ-ofZ {w = w32} {z = c .before .args .count} (c .before .fits .count)) _ (c .if1 .taken)
 
+-- src/xdr.rt:238:16
+at-least-0-requires : tie.Need-at-least-0-requires
+at-least-0-requires c κs = search needs
+
+-- src/xdr.rt:225:1
 returns-2 : tie.Need-returns-2
-returns-2 c = count-long (toZ-ofZ {w = w32} {z = c .before .before .args .count} (c .before .before .fits .count)) _ (c .if2 .taken)
-
-cast-t5 : tie.Need-cast-t5
-cast-t5 c = count-fits (toZ-ofZ {w = w32} {z = c .before .before .args .count} (c .before .before .fits .count)) (c .before .before .args .at) (c .before .before .fits .count) (c .before .if1 .left)
-
-returns-3 : tie.Need-returns-3
-returns-3 c = count-some (toZ-ofZ {w = w32} {z = c .before .before .args .count} (c .before .before .fits .count)) _ (c .before .if1 .left) (c .if2 .left)
+returns-2 c = count-value (toZ-ofZ {w = w32} {z = c .before .before .args .count} (c .before .before .fits .count)) _ (c .before .if1 .left) (c .at-least-0 .ensures .0)
 
 pub list-count-spec : {M : Type 1} → statement M
-list-count-spec = tie.close (tie.spec returns returns-2 cast-t5 returns-3)
+list-count-spec = tie.close (tie.spec returns at-least-0-requires returns-2)

@@ -1,0 +1,37 @@
+-- Bytes put together with the first as the lowest, and what that says of the number that they stand for. Assumes nothing.
+use Prim.Native.Nat.{ℕ, zero, suc, _+_, _*_, _/_, _%_, _≤_, _<_}
+use native.Mathlib.Omega.{arith}
+use mathlib.Core.List.{List}
+use mathlib.Core.Path.{_≡_, refl, sym, _∙_}
+use lib.ListN.{getD}
+use lib.Dec.{eqb}
+use borrow.Author.Tests.{le-leb, lt-leb, ne-eqb}
+use Rattle.bytes.specs.Bytes.{u16At, u32At}
+use Rattle.symbology.specs.Rows.{isLevel}
+
+-- a number is a level exactly where its two upper bytes are 0
+level-bytes : (a b c d : ℕ) → a < 256 → b < 256 → c < 256 → d < 256
+    → eqb ((a + b * 256 + c * 65536 + d * 16777216) % 65536) 0 ≡ isLevel ((a * 256 + b) * 65536 + (c * 256 + d))
+level-bytes a b c d ha hb hc hd =
+    let low : (a + b * 256 + c * 65536 + d * 16777216) % 65536 ≡ a + b * 256 = omega arith in
+    rw low (go (a + b * 256) refl)
+  where
+    go : (n : ℕ) → a + b * 256 ≡ n → eqb n 0 ≡ isLevel ((a * 256 + b) * 65536 + (c * 256 + d))
+    go zero e = let h : (a * 256 + b) * 65536 + (c * 256 + d) ≤ 65535 = omega (arith, e, hc, hd) in sym (le-leb _ _ h)
+    go (suc n) e = let h : 65535 < (a * 256 + b) * 65536 + (c * 256 + d) = omega (arith, e) in ne-eqb (suc n) 0 (λ q. omega (arith, q)) ∙ sym (lt-leb _ _ h)
+
+pub low-first : (s : List ℕ) (at : ℕ) {a b c d : ℕ} → (a ≡ getD s at 0) × (a < 256) → (b ≡ getD s (at + 1) 0) × (b < 256) → (c ≡ getD s (at + 2) 0) × (c < 256)
+    → (d ≡ getD s (at + 3) 0) × (d < 256) → eqb ((a + b * 256 + c * 65536 + d * 16777216) % 65536) 0 ≡ isLevel (u32At s at)
+unfolding u16At u32At
+low-first s at {a} {b} {c} {d} (ea, ha) (eb, hb) (ec, hc) (ed, hd) =
+    let e : at + 3 ≡ at + 2 + 1 = omega arith in
+    level-bytes a b c d ha hb hc hd ∙ rw (ea, eb, ec, ed, e)
+
+-- two bytes, swapped back
+swapped : (a b : ℕ) → a < 256 → b < 256 → (a + b * 256) % 256 * 256 + (a + b * 256) / 256 ≡ a * 256 + b
+swapped a b ha hb = omega arith
+
+pub low-first-half : (s : List ℕ) (at : ℕ) {a b : ℕ} → (a ≡ getD s at 0) × (a < 256) → (b ≡ getD s (at + 1) 0) × (b < 256)
+    → ((a + b * 256) % 256 * 256 + (a + b * 256) / 256 ≡ u16At s at) × (a + b * 256 < 65536)
+unfolding u16At
+low-first-half s at {a} {b} (ea, ha) (eb, hb) = (swapped a b ha hb ∙ rw (ea, eb), omega (arith, ha, hb))

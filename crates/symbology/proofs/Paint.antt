@@ -1,0 +1,78 @@
+-- The cells of AF1F runs, written block over block: the first gate places are written, and what is left of the cells makes the rest of
+-- the row. Assumes nothing.
+use Prim.Native.Nat.{ℕ, _+_, _-_, _≤_, _<_}
+use native.Mathlib.Nat.{sub-zero}
+use native.Mathlib.Omega.{arith}
+use mathlib.Core.List.{List, [], _∷_, _++_, append-assoc, append-nil}
+use mathlib.Core.Path.{_≡_, refl, sym, ap, _∙_}
+use lib.ListN.{length, getD, take, drop, replicate, length-append, length-drop, length-replicate, replicate-append-replicate}
+use lib.Seq.{take-append-add, take-append-le, take-all, take-at, length-take-le}
+use borrow.Rule.Slice.PartMut.{putMid}
+use Rattle.symbology.specs.Rows.{runOf, colourOf, reach, cells}
+use Rattle.symbology.proofs.Runs.{left-cons, Reached, reached-first, reached-end, reached-over, reached-turn}
+
+-- the first n of m times v and more
+take-same : {A : Type 0} (n m : ℕ) (v : A) (l : List A) → n ≤ m → take n (replicate m v ++ l) ≡ replicate n v
+take-same n m v l h =
+    let e : m ≡ n + (m - n) = omega arith in
+    rw (e, ← (replicate-append-replicate n (m - n) v), append-assoc) (take-at (replicate n v) _ n (length-replicate n v))
+
+-- `spread`: the whole part is filled, or a block of 16
+pub spread-all : {ys : List ℕ} (n v : ℕ) (d : List ℕ) → n ≤ length d → ys ≡ replicate (length d) v → take n ys ≡ replicate n v
+spread-all n v d h e = rw (e, ← (append-nil (replicate (length d) v))) (take-same n (length d) v [] h)
+
+pub spread-block : {ys : List ℕ} (n v : ℕ) (d : List ℕ) → n ≤ 16 → 16 ≤ length d → ys ≡ replicate (length (take 16 d)) v → take n (ys ++ drop 16 d) ≡ replicate n v
+spread-block n v d h k e = rw (e, length-take-le 16 d k) (take-same n 16 v (drop 16 d) h)
+
+-- what is before a, and then the first k of what is put there
+take-past : {A : Type 0} (a k : ℕ) (row ys : List A) → a ≤ length row → take (a + k) (take a row ++ ys) ≡ take a row ++ take k ys
+take-past a k row ys h =
+    let e : a ≡ length (take a row) = sym (length-take-le a row h) in
+    rw (ap (λ (m : ℕ). take (m + k) (take a row ++ ys)) e) (take-append-add (take a row) ys k)
+
+put-long : {A : Type 0} (row ys : List A) (a : ℕ) → a ≤ length row → length ys ≡ length row - a → length (putMid a (length row - a) row ys) ≡ length row
+put-long row ys a h e =
+    length-append (take a row) (ys ++ drop (length row - a) (drop a row))
+    ∙ omega (arith, e, length-append ys (drop (length row - a) (drop a row)), length-drop (length row - a) (drop a row), length-drop a row, length-take-le a row h)
+
+cells-more : (b k : ℕ) (bs : List ℕ) → take (runOf b + k) (cells (b ∷ bs)) ≡ replicate (runOf b) (colourOf b) ++ take k (cells bs)
+unfolding cells
+cells-more b k bs =
+    rw (ap (λ (m : ℕ). take (m + k) (replicate (runOf b) (colourOf b) ++ cells bs)) (sym (length-replicate (runOf b) (colourOf b))))
+    (take-append-add (replicate (runOf b) (colourOf b)) (cells bs) k)
+
+pub record Painted (runs row₀ row : List ℕ) (i gate : ℕ) : Type 0 where
+  pub reached : Reached runs (length row₀) i gate
+  pub long : length row ≡ length row₀
+  pub known : take (length row₀) (cells runs) ≡ take gate row ++ take (length row₀ - gate) (cells (drop i runs))
+
+pub painted-first : (runs row : List ℕ) → Painted runs row row 0 0
+painted-first runs row = record { reached = reached-first _ _; long = refl; known = rw sub-zero }
+
+module _ {runs row₀ row : List ℕ} {i gate : ℕ} (full : reach (length row₀) runs ≡ length row₀) (inv : Painted runs row₀ row i gate) where
+  stop : gate ≡ reach (length row₀) runs → row ≡ take (length row₀) (cells runs)
+  stop h =
+      let e : gate ≡ length row₀ = h ∙ full in
+      let none : length row₀ - gate ≡ 0 = omega arith in
+      sym (inv .known ∙ rw none (append-nil _ ∙ take-all gate row (omega (arith, inv .long))))
+
+  pub painted-end : length runs ≤ i → row ≡ take (length row₀) (cells runs)
+  painted-end h = stop (reached-end (inv .reached) h)
+
+  module _ {b : ℕ} (inside : i < length runs) (is : b ≡ getD runs i 0) where
+    pub painted-over : length row - gate < runOf b → row ≡ take (length row₀) (cells runs)
+    painted-over h = stop (reached-over (inv .reached) inside is (rw (inv .long) at h))
+
+    pub painted-turn : (ys : List ℕ) → runOf b ≤ length row - gate → length ys ≡ length row - gate
+        → take (runOf b) ys ≡ replicate (runOf b) (colourOf b)
+        → Painted runs row₀ (putMid gate (length row - gate) row ys) (i + 1) (gate + runOf b)
+    painted-turn ys h long run =
+        let k : length row₀ - gate ≡ runOf b + (length row₀ - (gate + runOf b)) = omega (arith, inv .long) in
+        let within : gate ≤ length row = omega (arith, inv .reached .within, inv .long) in
+        let front : take (gate + runOf b) (putMid gate (length row - gate) row ys) ≡ take gate row ++ replicate (runOf b) (colourOf b) =
+        take-past gate (runOf b) row _ within ∙ rw (take-append-le (runOf b) ys (drop (length row - gate) (drop gate row)) (omega (arith, long)), run) in
+        record {
+          reached = reached-turn (inv .reached) inside is (omega (arith, inv .long));
+          long = put-long row ys gate within long ∙ inv .long;
+          known = inv .known ∙ rw (front, append-assoc, k, left-cons runs i inside, ← is) (ap (λ (l : List ℕ). take gate row ++ l) (cells-more b _ _));
+        }

@@ -1,0 +1,75 @@
+-- Packet 28: a radial's frame, as the code goes through its items. Assumes nothing.
+use Prim.Native.Nat.{ℕ, zero, suc, _+_, _*_, _-_, _≤_, _<_}
+use native.Mathlib.Omega.{arith}
+use mathlib.Core.List.{List, [], _∷_}
+use mathlib.Core.Bool.{Bool, true, false, cond, not}
+use mathlib.Core.Path.{_≡_, refl, sym, ap, _∙_}
+use lib.ListN.{length}
+use lib.Dec.{eqb, ltb}
+use lib.Ieee.{Float}
+use borrow.Author.Tests.{eqb-true, not-false}
+use Rattle.bytes.specs.Refusal.{Refusal}
+use Rattle.bytes.specs.Result.{accepted, refused}
+use Rattle.bytes.specs.Reading.{give, Ended, passed, halted, onward, walk}
+use Rattle.bytes.proofs.Readings.{walk-then, parts, parts-by, passed-check, walk-give}
+use Rattle.xdr.proofs.Items.{array-count-end}
+use Rattle.xdr.specs.Xdr.{atLeast0}
+use Rattle.symbology.specs.Symbology.{Strip, xdrFrame}
+use Rattle.symbology.specs.Walk.{Span, Place, expectedOf, stripThen, stripSpan, placed}
+use Rattle.xdr.specs.declared.xdr.Step.{Step}
+use Rattle.xdr.specs.declared.xdr.Step.the-variants as Step
+use Rattle.xdr.specs.Answers.{stepOf}
+
+-- a step with its strip
+pub strip-then : (azimuth : Float) (bins : ℕ) (st : Step) → stripThen azimuth bins st ≡ onward (stepOf st) (λ _ p. passed (record { azimuth = azimuth; bins = bins }) p)
+strip-then azimuth bins (Step.At p) = refl
+strip-then azimuth bins (Step.Refused e p) = refl
+
+-- What a frame that passed shows: its bins are those expected, and its data are there.
+pub record Framed (expected : ℕ → ℕ) (s : List ℕ) (strip : Strip) (q : ℕ) : Type 0 where
+  pub bins-are : strip .bins ≡ expected (strip .bins)
+  pub room : strip .bins * 4 ≤ length s - q
+  pub inside : q ≤ length s
+
+pub framed : (radials r : ℕ) (expected : ℕ → ℕ) (s : List ℕ) (p : ℕ) (strip : Strip) (q : ℕ) → passed strip q ≡ walk (xdrFrame radials r expected) s p
+    → Framed expected s strip q
+unfolding xdrFrame
+framed radials r expected s p strip q e =
+    let a = parts _ _ s p e in
+    let b = parts-by _ _ s _ (a .second) in
+    let c = parts _ _ s _ (b .second) in
+    let d = parts _ _ s _ (c .second) in
+    let f = parts-by _ _ s _ (d .second) in
+    let g = parts _ _ s _ (f .second) in
+    let k = array-count-end s _ _ _ (g .first) in
+    let h₁ = passed-check _ _ _ s _ (g .second) in
+    let h₂ = passed-check _ _ _ s _ (h₁ .1) in
+    let h₃ = passed-check _ _ _ s _ (h₂ .1) in
+    let h₄ = passed-check _ _ _ s _ (h₃ .1) in
+    last (g .value) (atLeast0 (d .value)) (eqb-true _ _ (not-false _ (h₂ .0))) (eqb-true _ _ (not-false _ (h₃ .0))) (k .1) (k .2) (h₄ .1 ∙ walk-give _ s _)
+  where
+    last : (n bins : ℕ) {m : ℕ} {azimuth : Float} → bins ≡ expected bins → n ≡ bins → n * 4 ≤ length s - m → m ≤ length s
+        → passed strip q ≡ passed (record { azimuth = azimuth; bins = bins }) m → Framed expected s strip q
+    last n bins {m} {azimuth} x h k l e =
+        let a : q ≡ m = cc in
+        let b : strip ≡ record { azimuth = azimuth; bins = bins } = cc in
+        let c : strip .bins ≡ bins = ap (λ x. x .bins) b in
+        let d : bins ≡ n = sym h in
+        rw (b, a) (record { bins-are = x; room = rw d k; inside = l })
+
+-- ---- the place of its data
+
+module _ (radials r bins : ℕ) (s : List ℕ) (p : ℕ) where
+  span-is : (e : Ended Strip) → e ≡ walk (xdrFrame radials r (expectedOf false bins)) s p
+      → placed (onward e (λ strip q. passed (record { azimuth = strip .azimuth; size = strip .bins * 4 }) q)) ≡ placed (walk (stripSpan radials bins r) s p)
+  unfolding stripSpan walk
+  span-is e h =
+      ap (λ x. placed (onward x (λ strip q. passed (record { azimuth = strip .azimuth; size = strip .bins * 4 }) q))) h
+      ∙ ap placed (sym (walk-then (λ strip. give (record { azimuth = strip .azimuth; size = strip .bins * 4 })) (xdrFrame radials r (expectedOf false bins)) s p))
+
+  pub span-whole : {a : Float} {n q : ℕ} → passed (record { azimuth = a; bins = n }) q ≡ walk (xdrFrame radials r (expectedOf false bins)) s p
+      → accepted (record { azimuth = a; from = q; to = q + n * 4 }) ≡ placed (walk (stripSpan radials bins r) s p)
+  span-whole e = span-is _ e
+
+  pub span-halted : {x : Refusal} {q : ℕ} → halted x q ≡ walk (xdrFrame radials r (expectedOf false bins)) s p → refused x ≡ placed (walk (stripSpan radials bins r) s p)
+  span-halted e = span-is _ e

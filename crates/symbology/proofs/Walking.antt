@@ -1,0 +1,199 @@
+-- The walk over the radials, one for all packets: what the code's answers say of it. Assumes nothing.
+use Prim.Native.Nat.{ℕ, zero, suc, _+_, _*_, _-_, _≤_, _<_}
+use native.Mathlib.Nat.{not-suc-le-zero}
+use native.Mathlib.Numerals.{add-one}
+use native.Mathlib.Omega.{arith}
+use mathlib.Core.List.{List, [], _∷_, _++_}
+use mathlib.Core.Bool.{Bool, true, false, cond, _||_}
+use mathlib.Core.Path.{_≡_, refl, sym, ap, _∙_}
+use lib.ListN.{length, take, drop, length-append}
+use lib.Seq.{slice}
+use lib.Dec.{ltb, eqb}
+use lib.Ieee.{Float}
+use borrow.Author.Tests.{ltb-false}
+use Rattle.bytes.specs.Bytes.{u16At}
+use Rattle.bytes.specs.Refusal.{Refusal}
+use Rattle.bytes.specs.Result.{Result, accepted, refused, then}
+use Rattle.bytes.specs.Reading.{Flat, give, _>>=_, _>>_, radial-data, more, after-row, run, Given, Ended, passed, halted, onward, past-row, walk}
+use Rattle.bytes.proofs.Readings.{walk-then, walk-give, then-passed, then-halted, part-slice, parts, past-test}
+use Rattle.bytes.proofs.Runs.{Plain, plain-then, plain-by, plain-give, plain-check, plain-remaining, plain-u16, run-then, run-passed, run-parts, plain-passed, prepend, and-then}
+use Rattle.xdr.proofs.Plains.{plain-pass, plain-int, plain-float, plain-string, plain-array-count}
+use Rattle.symbology.specs.Rows.{rowOf}
+use Rattle.symbology.specs.Places.{Enough}
+use Rattle.symbology.specs.Symbology.{Strip, covered, countWrong, frame, xdrFrame}
+use Rattle.symbology.specs.Walk.{Span, Place, expectedOf, beamSpan, stripSpan, anyFrame, anyRadial, anyWalk, placed, position}
+use Rattle.symbology.proofs.Beams.{beam-is}
+use Rattle.symbology.proofs.Strips.{Framed, framed}
+use Rattle.symbology.specs.declared.figures.Packet.{Packet}
+use Rattle.symbology.specs.declared.figures.Packet.the-variants.{Packet16, PacketAf1f, Packet28}
+
+-- ---- a frame that passed
+
+-- What it shows: the data are inside, and enough for the row.
+pub record Spanned (packet : Packet) (bins : ℕ) (s : List ℕ) (sp : Span) (q : ℕ) : Type 0 where
+  pub inside : q + sp .size ≤ length s
+  pub enough : Enough packet bins (sp .size)
+
+or-false : (a b : Bool) → a || b ≡ false → (a ≡ false) × (b ≡ false)
+or-false true b h = let z : _≡_ {A = ℕ} 0 1 = cc in absurd (omega arith)
+or-false false b h = (refl, h)
+
+-- packets 16 and AF1F
+count-right : (packet : Packet) (bins count room : ℕ) → (packet ≡ Packet28 → ⊥) → countWrong packet bins count room ≡ false
+    → (covered packet count ≤ room) × Enough packet bins (covered packet count)
+unfolding countWrong covered Enough
+count-right Packet16 bins count room old h = let k = or-false _ _ h in (ltb-false _ _ (k .1), ltb-false _ _ (k .0))
+count-right PacketAf1f bins count room old h = (ltb-false _ _ h, tt)
+count-right Packet28 bins count room old h = absurd (old refl)
+
+module _ (packet : Packet) (old : packet ≡ Packet28 → ⊥) (radials bins r : ℕ) (s : List ℕ) (p : ℕ) where
+  beam-spanned : (sp : Span) (q : ℕ) → passed sp q ≡ walk (beamSpan packet radials bins r) s p → Spanned packet bins s sp q
+  beam-spanned sp q e =
+      let h₁ = past-test (ltb (length s - p) 6) _ _ _ (e ∙ beam-is packet radials bins r s p) in
+      let h₂ = past-test (eqb (u16At s (p + 4)) 0 || ltb 100 (u16At s (p + 4))) _ _ _ (h₁ .1) in
+      let h₃ = past-test (countWrong packet bins (u16At s p) (length s - (p + 6))) _ _ _ (h₂ .1) in
+      let six : 6 ≤ length s - p = ltb-false _ _ (h₁ .0) in
+      let c = count-right packet bins _ _ old (h₃ .0) in
+      last six (c .0) (c .1) (h₃ .1)
+    where
+      last : {sp' : Span} → 6 ≤ length s - p → sp' .size ≤ length s - (p + 6) → Enough packet bins (sp' .size) → passed sp q ≡ passed sp' (p + 6) → Spanned packet bins s sp q
+      last {sp'} six h k l =
+          let a : q ≡ p + 6 = cc in
+          let b : sp ≡ sp' = cc in
+          rw (b, a) (record { inside = omega arith; enough = k })
+
+module _ (radials bins r : ℕ) (s : List ℕ) (p : ℕ) where
+  strip-spanned : (sp : Span) (q : ℕ) → passed sp q ≡ walk (stripSpan radials bins r) s p → Spanned Packet28 bins s sp q
+  unfolding stripSpan expectedOf Enough
+  strip-spanned sp q e =
+      let a = parts _ _ s p e in
+      let f = framed radials r (expectedOf false bins) s p (a .value) (a .middle) (a .first) in
+      last (f .bins-are) (f .room) (f .inside) (a .second ∙ walk-give _ s _)
+    where
+      last : {n m : ℕ} {azimuth : Float} → n ≡ bins → n * 4 ≤ length s - m → m ≤ length s → passed sp q ≡ passed (record { azimuth = azimuth; size = n * 4 }) m
+          → Spanned Packet28 bins s sp q
+      last {n} {m} {azimuth} h k l e =
+          let a : q ≡ m = cc in
+          let b : sp ≡ record { azimuth = azimuth; size = n * 4 } = cc in
+          rw (b, a) (record { inside = omega arith; enough = ap (λ x. x * 4) h })
+
+no28 : Packet16 ≡ Packet28 → ⊥
+no28 h = let z : _≡_ {A = ℕ} 0 1 = cc in omega arith
+
+no28' : PacketAf1f ≡ Packet28 → ⊥
+no28' h = let z : _≡_ {A = ℕ} 0 1 = cc in omega arith
+
+pub spanned : (packet : Packet) (radials bins r : ℕ) (s : List ℕ) (p : ℕ) (sp : Span) (q : ℕ) → passed sp q ≡ walk (anyFrame packet radials bins r) s p → Spanned packet bins s sp q
+unfolding anyFrame
+spanned Packet16 radials bins r s p = beam-spanned Packet16 no28 radials bins r s p
+spanned PacketAf1f radials bins r s p = beam-spanned PacketAf1f no28' radials bins r s p
+spanned Packet28 radials bins r s p = strip-spanned radials bins r s p
+
+abbrev fine : Result (Unit {0})
+fine = accepted tt
+
+-- the place that the code is given
+pub record Found (packet : Packet) (radials bins r : ℕ) (s : List ℕ) (p : ℕ) (a : Float) (from to : ℕ) : Type 0 where
+  pub size : ℕ
+  pub to-is : to ≡ from + size
+  pub frame-is : passed (record { azimuth = a; size = size }) from ≡ walk (anyFrame packet radials bins r) s p
+  pub inside : to ≤ length s
+  pub enough : Enough packet bins size
+
+module _ (packet : Packet) (radials bins r : ℕ) (s : List ℕ) (p : ℕ) where
+  pub found : {a : Float} {from to : ℕ} → accepted (record { azimuth = a; from = from; to = to }) ≡ placed (walk (anyFrame packet radials bins r) s p)
+      → Found packet radials bins r s p a from to
+  found {a} {from} {to} e = go (walk (anyFrame packet radials bins r) s p) refl e
+    where
+      go : (w : Ended Span) → walk (anyFrame packet radials bins r) s p ≡ w → accepted (record { azimuth = a; from = from; to = to }) ≡ placed w
+          → Found packet radials bins r s p a from to
+      go (passed sp q) h k =
+          let l : _≡_ {A = Place} (record { azimuth = a; from = from; to = to }) (record { azimuth = sp .azimuth; from = q; to = q + sp .size }) = cc in
+          let x : a ≡ sp .azimuth = ap (λ y. y .azimuth) l in
+          let f : from ≡ q = ap (λ y. y .from) l in
+          let t : to ≡ q + sp .size = ap (λ y. y .to) l in
+          let g = spanned packet radials bins r s p sp q (sym h) in
+          record {
+            size = sp .size;
+            to-is = rw f t;
+            frame-is = rw (x, f) (sym h);
+            inside = rw t (g .inside);
+            enough = g .enough;
+          }
+      go (halted x q) h k = let z : _≡_ {A = ℕ} 0 1 = cc in absurd (omega arith)
+
+  -- a radial whose frame is refused, and one whose frame passed
+  pub radial-refused : {x : Refusal} → refused x ≡ placed (walk (anyFrame packet radials bins r) s p) → refused x ≡ position (walk (anyRadial packet radials bins r) s p)
+  unfolding anyRadial
+  radial-refused {x} e = go (walk (anyFrame packet radials bins r) s p) refl e
+    where
+      go : (w : Ended Span) → walk (anyFrame packet radials bins r) s p ≡ w → refused x ≡ placed w → refused x ≡ position (walk (anyRadial packet radials bins r) s p)
+      go (passed sp q) h k = let z : _≡_ {A = ℕ} 0 1 = cc in absurd (omega arith)
+      go (halted y q) h k = let l : x ≡ y = cc in ap refused l ∙ ap position (then-halted _ (anyFrame packet radials bins r) s p (sym h))
+
+  module _ {a : Float} {from to : ℕ} (f : Found packet radials bins r s p a from to) where
+    pub data-is : take (to - from) (drop from s) ≡ slice from (from + f .size) s
+    data-is = let h : from ≤ to = omega (arith, f .to-is) in part-slice s from to h ∙ ap (λ k. slice from k s) (f .to-is)
+
+    after-frame : walk (anyRadial packet radials bins r) s p ≡ past-row (rowOf packet bins r (slice from (from + f .size) s)) (from + f .size) (passed a (from + f .size))
+    unfolding anyRadial radial-data walk _>>=_ _>>_
+    after-frame = then-passed _ (anyFrame packet radials bins r) s p (f .frame-is)
+
+    -- the row is tested on its own
+    pub radial-row : {c : Result (Unit {0})} → c ≡ then (rowOf packet bins r (take (to - from) (drop from s))) (λ _. accepted tt)
+        → then c (λ _. accepted to) ≡ position (walk (anyRadial packet radials bins r) s p)
+    radial-row {c} e = rw (e, data-is, after-frame, f .to-is) (go (rowOf packet bins r (slice from (from + f .size) s)))
+      where
+        go : (c : Result (List ℕ)) → then (then c (λ _. fine)) (λ _. accepted (from + f .size)) ≡ position (past-row c (from + f .size) (passed a (from + f .size)))
+        go (accepted codes) = refl
+        go (refused x) = refl
+
+-- ---- n radials
+
+module _ (packet : Packet) (radials bins : ℕ) (s : List ℕ) where
+  walk-suc : (k r p : ℕ) → position (walk (anyWalk packet radials bins (suc k) r) s p)
+      ≡ then (position (walk (anyRadial packet radials bins r) s p)) (λ q. position (walk (anyWalk packet radials bins k (suc r)) s q))
+  unfolding anyWalk walk
+  walk-suc k r p =
+      ap position (walk-then (λ a. anyWalk packet radials bins k (suc r) >>= λ rest. give (a ∷ rest)) (anyRadial packet radials bins r) s p)
+      ∙ go (walk (anyRadial packet radials bins r) s p)
+    where
+      onto : (a : Float) (q : ℕ) → position (walk {W = ⊥} (anyWalk packet radials bins k (suc r) >>= λ rest. give (a ∷ rest)) s q) ≡ position (walk (anyWalk packet radials bins k (suc r)) s q)
+      onto a q = ap position (walk-then (λ rest. give (a ∷ rest)) (anyWalk packet radials bins k (suc r)) s q) ∙ same (walk (anyWalk packet radials bins k (suc r)) s q)
+        where
+          same : (w : Ended (List Float)) → position (onward w (λ rest m. passed (a ∷ rest) m)) ≡ position w
+          same (passed l m) = refl
+          same (halted x m) = refl
+
+      go : (w : Ended Float) → position (onward w (λ a q. walk {W = ⊥} (anyWalk packet radials bins k (suc r) >>= λ rest. give (a ∷ rest)) s q))
+          ≡ then (position w) (λ q. position (walk (anyWalk packet radials bins k (suc r)) s q))
+      go (passed a q) = onto a q
+      go (halted x q) = refl
+
+  -- The checking walk: what is left of it says what the whole says.
+  pub record Checked (start r at : ℕ) : Type 0 where
+    pub number : r ≤ radials
+    pub left : position (walk (anyWalk packet radials bins (radials - r) r) s at) ≡ position (walk (anyWalk packet radials bins radials 0) s start)
+
+  pub checked-first : (start : ℕ) → Checked start 0 start
+  checked-first start = let e : radials - 0 ≡ radials = omega arith in record { number = omega arith; left = rw e refl }
+
+  module _ {start r at : ℕ} (inv : Checked start r at) where
+    turn : r < radials → then (position (walk (anyRadial packet radials bins r) s at)) (λ q. position (walk (anyWalk packet radials bins (radials - (r + 1)) (r + 1)) s q))
+        ≡ position (walk (anyWalk packet radials bins radials 0) s start)
+    turn h =
+        let e : radials - r ≡ suc (radials - suc r) = omega arith in
+        rw (add-one r)
+        (sym (walk-suc (radials - suc r) r at) ∙ ap (λ k. position (walk (anyWalk packet radials bins k r) s at)) (sym e) ∙ inv .left)
+
+    pub checked-next : {q : ℕ} → r < radials → accepted q ≡ position (walk (anyRadial packet radials bins r) s at) → Checked start (r + 1) q
+    checked-next h k =
+        record { number = omega arith; left = ap (λ c. then c (λ q. position (walk (anyWalk packet radials bins (radials - (r + 1)) (r + 1)) s q))) k ∙ turn h }
+
+    pub checked-stop : {x : Refusal} → r < radials → refused x ≡ position (walk (anyRadial packet radials bins r) s at)
+        → refused x ≡ position (walk (anyWalk packet radials bins radials 0) s start)
+    checked-stop h k = ap (λ c. then c (λ q. position (walk (anyWalk packet radials bins (radials - (r + 1)) (r + 1)) s q))) k ∙ turn h
+
+    pub checked-end : radials ≤ r → accepted at ≡ position (walk (anyWalk packet radials bins radials 0) s start)
+    unfolding anyWalk walk
+    checked-end h = let e : radials - r ≡ 0 = omega arith in sym (ap (λ k. position (walk (anyWalk packet radials bins k r) s at)) e) ∙ inv .left

@@ -1,0 +1,11 @@
+pub mod Trailing
+pub mod Centre
+pub mod Rows
+pub mod Runs
+pub mod Levels
+pub mod Symbology
+pub mod Answers
+pub mod Walk
+pub mod Damage
+pub mod Places
+pub mod Words

@@ -1,0 +1,184 @@
+-- The walk over the radials as the code goes, one for all packets. proofs/Walking.antt shows that it is the reading's.
+use Prim.Native.Nat.{ℕ, zero, suc, _+_, _*_, _≤_}
+use mathlib.Core.List.{List, [], _∷_}
+use mathlib.Core.Path.{_≡_}
+use mathlib.Core.Bool.{Bool, true, false, not}
+use lib.Dec.{eqb}
+use lib.IntN.{pos}
+use lib.Signed.{leZ, ltZ}
+use lib.Ieee.{Float}
+use Rattle.bytes.specs.Refusal.{refusalOf, kind, nat, whole}
+use Rattle.bytes.specs.Bytes.{u16At}
+use Rattle.bytes.specs.Result.{Result, accepted, refused, then}
+use Rattle.bytes.specs.Reading.{Flat, give, _>>=_, _>>_, radial-data, refuse-if, run, Given, Ended, passed, halted, onward}
+use Rattle.xdr.specs.Xdr as Xdr
+use Rattle.xdr.specs.Xdr.{int, string, atLeast0, counted, parameter}
+use Rattle.symbology.specs.Centre.{centre}
+use Rattle.symbology.specs.Rows.{rowOf}
+use Rattle.symbology.specs.Symbology.{Sweep, Header, Strip, covered, frame, xdrFrame}
+use Rattle.symbology.specs.declared.figures.Packet.{Packet}
+use Rattle.symbology.specs.declared.figures.Packet.the-variants.{Packet16, PacketAf1f, Packet28}
+use Rattle.xdr.specs.declared.xdr.Step.{Step}
+use Rattle.xdr.specs.declared.xdr.Step.the-variants as Step
+use Rattle.symbology.specs.declared.generic.FrameStep.{FrameStep}
+use Rattle.symbology.specs.declared.generic.GatesRead.{GatesRead}
+use Rattle.symbology.specs.declared.generic.GatesRead.the-variants as GatesRead
+use Rattle.symbology.specs.declared.spans.PlanRead.{PlanRead}
+use Rattle.symbology.specs.declared.spans.PlanRead.the-variants as PlanRead
+use Rattle.symbology.specs.declared.figures.Figures.{Figures}
+use Rattle.symbology.specs.declared.radials.HeaderRead.{HeaderRead}
+use Rattle.symbology.specs.declared.radials.HeaderRead.the-variants as HeaderRead
+use Rattle.symbology.specs.declared.spans.SpanRead.{SpanRead}
+use Rattle.symbology.specs.declared.spans.SpanRead.the-variants as SpanRead
+use Rattle.symbology.specs.declared.spans.Next.{Next}
+use Rattle.symbology.specs.declared.spans.Next.the-variants as Next
+
+-- a radial's centre, and how many bytes its data have
+pub record Span : Type 0 where
+  pub azimuth : Float
+  pub size : ℕ
+
+-- the bins that packet 28 expects: the first reading of radial 0 takes its own
+unfoldable pub expectedOf : Bool → ℕ → ℕ → ℕ
+expectedOf true bins own = own
+expectedOf false bins own = bins
+
+unfoldable pub beamSpan : Packet → ℕ → ℕ → ℕ → Flat Span
+beamSpan packet radials bins r = do
+  beam ← frame packet radials bins r
+  give (record { azimuth = centre (beam .start) (beam .width); size = covered packet (beam .count) })
+
+unfoldable pub stripSpan : ℕ → ℕ → ℕ → Flat Span
+stripSpan radials bins r = do
+  strip ← xdrFrame radials r (expectedOf false bins)
+  give (record { azimuth = strip .azimuth; size = strip .bins * 4 })
+
+unfoldable pub anyFrame : Packet → ℕ → ℕ → ℕ → Flat Span
+anyFrame Packet16 = beamSpan Packet16
+anyFrame PacketAf1f = beamSpan PacketAf1f
+anyFrame Packet28 = stripSpan
+
+unfoldable pub anyRadial : Packet → ℕ → ℕ → ℕ → Flat Float
+anyRadial packet radials bins r = do
+  span ← anyFrame packet radials bins r
+  radial-data (span .size) (rowOf packet bins r)
+  give (span .azimuth)
+
+-- n radials from radial r on
+unfoldable pub anyWalk : Packet → ℕ → ℕ → ℕ → ℕ → Flat (List Float)
+anyWalk packet radials bins zero r = give []
+anyWalk packet radials bins (suc n) r = do
+  azimuth ← anyRadial packet radials bins r
+  azimuths ← anyWalk packet radials bins n (suc r)
+  give (azimuth ∷ azimuths)
+
+-- ---- what the answers say
+
+-- the centre and the place of the data
+pub record Place : Type 0 where
+  pub azimuth : Float
+  pub from : ℕ
+  pub to : ℕ
+
+abbrev pub placeOf : SpanRead → Result Place
+placeOf (SpanRead.Value a f t) = accepted (record { azimuth = a; from = f; to = t })
+placeOf (SpanRead.Refused e) = refused (refusalOf e)
+
+abbrev pub placed : Ended Span → Result Place
+placed (passed sp q) = accepted (record { azimuth = sp .azimuth; from = q; to = q + sp .size })
+placed (halted x q) = refused x
+
+-- the position after a reading
+abbrev pub nextOf : Next → Result ℕ
+nextOf (Next.At p) = accepted p
+nextOf (Next.Refused e) = refused (refusalOf e)
+
+abbrev pub position : {A : Type 0} → Ended A → Result ℕ
+position (passed a q) = accepted q
+position (halted x q) = refused x
+
+-- a frame's step
+abbrev pub stripThen : Float → ℕ → Step → Ended Strip
+stripThen azimuth bins (Step.At p) = passed (record { azimuth = azimuth; bins = bins }) p
+stripThen azimuth bins (Step.Refused e p) = halted (refusalOf e) p
+
+abbrev pub stripOf : FrameStep → Ended Strip
+stripOf x = stripThen (x .azimuth) (x .bins) (x .then)
+
+-- the packet header's answer; and its first bin, which packet 16 alone has
+abbrev pub headerOf : HeaderRead → Result Header
+headerOf (HeaderRead.Value h) = accepted (record { radials = h .«n_radials»; bins = h .«n_bins»; range = h .«range_scale» })
+headerOf (HeaderRead.Refused e) = refused (refusalOf e)
+
+abbrev pub firstOf : Packet → List ℕ → ℕ
+firstOf Packet16 body = u16At body 18
+firstOf PacketAf1f body = 0
+firstOf Packet28 body = 0
+
+-- ---- what is written
+
+abbrev pub Accepted : {A : Type 0} → Result A → Type 0
+Accepted {A} r = (a : A) × (r ≡ accepted a)
+
+-- the row of one radial
+abbrev pub firstRow : List (List ℕ) → List ℕ
+firstRow [] = []
+firstRow (row ∷ rows) = row
+
+abbrev pub rowIn : Result (Given Float) → List ℕ
+rowIn (accepted g) = firstRow (g .rows)
+rowIn (refused x) = []
+
+-- its centre, and the position after it
+abbrev pub centreIn : Result (Given Float) → Result (Float × ℕ)
+centreIn r = then r λ g. accepted (g .value, g .next)
+
+-- ---- packet 28's payload
+
+-- a component up to its radials: how many, and the gate figures. 27, 29, 30
+pub record Gates28 : Type 0 where
+  pub radials : ℕ
+  pub gateWidth : Float
+  pub firstGate : Float
+
+unfoldable pub componentHead : Flat Gates28
+componentHead = do
+  type ← int
+  refuse-if (not (eqb (atLeast0 type) 1)) (kind 27 (whole type ∷ []))
+  string
+  gateWidth ← Xdr.float
+  firstGate ← Xdr.float
+  counted parameter
+  radials ← int
+  refuse-if (leZ radials (pos 0)) (kind 29 (whole radials ∷ nat 0 ∷ []))
+  refuse-if (ltZ (pos 100000) radials) (kind 30 (whole radials ∷ nat 100000 ∷ []))
+  give (record { radials = atLeast0 radials; gateWidth = gateWidth; firstGate = firstGate })
+
+abbrev pub gatesOf : GatesRead → Result (Gates28 × ℕ)
+gatesOf (GatesRead.Value n w f p) = accepted (record { radials = n; gateWidth = w; firstGate = f }, p)
+gatesOf (GatesRead.Refused e) = refused (refusalOf e)
+
+abbrev pub reached : {A : Type 0} → Ended A → Result (A × ℕ)
+reached (passed a p) = accepted (a, p)
+reached (halted x p) = refused x
+
+-- a step with its figures
+abbrev pub gatesThen : ℕ → Float → Float → Ended (Unit {0}) → Result (Gates28 × ℕ)
+gatesThen n w f e = reached (onward e (λ _ p. passed (record { radials = n; gateWidth = w; firstGate = f }) p))
+
+-- a sweep from its figures and the run of its radials
+abbrev pub sweepFrom : Figures → Result (Given (List Float)) → Result (Given Sweep)
+sweepFrom f (accepted g) = accepted (record { value = record { figures = f; azimuths = g .value }; next = g .next; rows = g .rows })
+sweepFrom f (refused x) = refused x
+
+-- What a plan says of a reading R of the bytes s: its refusal; or its figures, and where its radials stand, all of which are accepted.
+pub record Planned (figures : Figures) (at next : ℕ) (s : List ℕ) (R : Result (Given Sweep)) : Type 0 where
+  pub radials : Given (List Float)
+  pub small : figures .«n_radials» ≤ 100000
+  pub radials-are : run (anyWalk (figures .packet) (figures .«n_radials») (figures .«n_bins») (figures .«n_radials») 0) s at ≡ accepted radials
+  pub next-is : radials .next ≡ next
+  pub whole : R ≡ sweepFrom figures (accepted radials)
+
+unfoldable pub Plans : PlanRead → List ℕ → Result (Given Sweep) → Type 0
+Plans (PlanRead.Value f at next) s R = Planned f at next s R
+Plans (PlanRead.Refused e) s R = refused (refusalOf e) ≡ R

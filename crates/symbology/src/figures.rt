@@ -1,0 +1,49 @@
+// What an accepted body gives beside its rows.
+use bytes::error::Level3DecodeError;
+
+pub enum Packet {
+    Packet16,
+    PacketAf1f,
+    Packet28,
+}
+
+// The range scale of packets 16 and AF1F, or the gate figures of packet 28.
+pub enum Geometry {
+    RangeScale(u16),
+    Gates {
+        gate_width_m: f32,
+        first_gate_m: f32,
+    },
+}
+
+pub struct Figures {
+    pub packet: Packet,
+    pub n_radials: usize,
+    pub n_bins: usize,
+    pub geometry: Geometry,
+}
+
+pub enum FiguresRead {
+    Value(Figures),
+    Refused(Level3DecodeError),
+}
+
+// What a caller asks of a body before anything is written: the packets that it can use, a step that is positive, room for the physical
+// values.
+pub struct Terms {
+    pub packet16: bool,
+    pub packet_af1f: bool,
+    pub packet28: bool,
+    pub increment: Increment,
+    pub physical: Room,
+}
+
+pub enum Increment {
+    Fine,
+    NonPositive(f32),
+}
+
+pub enum Room {
+    Unasked,
+    Places(usize),
+}

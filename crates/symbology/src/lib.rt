@@ -1,0 +1,9 @@
+// From a symbology body to rows: packets 16, AF1F and 28.
+mod centre;
+pub mod figures;
+mod generic;
+mod radials;
+mod rows;
+mod spans;
+pub mod trailing;
+mod walks;

@@ -1,0 +1,251 @@
+// The row that a radial's data make: tested, and written to a part of the codes. The data are a part of the body that starts at its first
+// data byte.
+use crate::figures::Packet;
+use crate::trailing::Check;
+use bytes::error::Level3DecodeError;
+ghost use mathlib.Core.Path.{_≡_};
+ghost use Prim.Native.Nat.{_+_, _*_, _/_, _%_, _≤_, _<_};
+ghost use mathlib.Core.Bool.{true, _&&_};
+ghost use lib.ListN.{length, getD, take, replicate};
+ghost use lib.Dec.{eqb};
+ghost use Rattle.bytes.specs.Bytes.{u16At, u32At};
+ghost use Rattle.bytes.specs.Result.{accepted, then};
+ghost use Rattle.bytes.specs.Text.{all, leading};
+ghost use Rattle.symbology.specs.Rows.{reach, cells, rowAF1F, words, isLevel, levels, rowOf, codesOf, FullRow};
+ghost use Rattle.symbology.specs.Answers.{checkOf};
+
+// Whether the data make a row: always in packet 16; in AF1F 22, in packet 28 34.
+pub fn check_row(packet: Packet, n_bins: usize, radial: usize, data: &[u8]) -> Check
+    ensures { λ r. ⌜ checkOf r ≡ then (rowOf packet «n_bins» radial (now («data» .entry))) (λ _. accepted tt) ⌝ }
+{
+    match packet {
+        Packet::Packet16 => Check::Passed,
+        Packet::PacketAf1f => check_runs(n_bins, radial, data),
+        Packet::Packet28 => check_levels(radial, data),
+    }
+}
+
+// The codes of data that make a row.
+pub fn write_row(packet: Packet, data: &[u8], row: &mut [u16])
+    requires { ⌜ FullRow packet (length (now row)) (now «data») ⌝ }
+    ensures { λ _. ⌜ now (row .exit) ≡ codesOf packet (length (now (row .entry))) (now («data» .entry)) ⌝ }
+{
+    match packet {
+        Packet::Packet16 => {
+            bytes_write(data, row);
+        }
+        Packet::PacketAf1f => {
+            rle_write(data, row);
+        }
+        Packet::Packet28 => {
+            write_levels(data, row);
+        }
+    }
+}
+
+// ---- bytes, with their bound
+
+fn wide(b: u8) -> u16
+    ensures { λ r. ⌜ (r ≡ b) × (r < 256) ⌝ }
+{
+    b as u16
+}
+
+fn byte(buf: &[u8], i: usize) -> u32
+    requires { ⌜ i < length (now buf) ⌝ }
+    ensures { λ r. ⌜ (r ≡ getD (now (buf .entry)) i 0) × (r < 256) ⌝ }
+{
+    buf[i] as u32
+}
+
+// ---- packet 16
+
+// The first bytes, one to each place of the row.
+fn bytes_write(src: &[u8], row: &mut [u16])
+    requires { ⌜ length (now row) ≤ length (now src) ⌝ }
+    ensures { λ _. ⌜ now (row .exit) ≡ take (length (now (row .entry))) (now (src .entry)) ⌝ }
+{
+    let mut i: usize = 0;
+    while i < row.len() {
+        row[i] = wide(src[i]);
+        i += 1;
+    }
+}
+
+// ---- packet AF1F
+
+// The greatest sum of a prefix of the run lengths that is not over n.
+fn rle_reach(runs: &[u8], n: usize) -> usize
+    ensures { λ r. ⌜ r ≡ reach n (now (runs .entry)) ⌝ }
+{
+    let mut gate: usize = 0;
+    let mut i: usize = 0;
+    while i < runs.len() {
+        let run = byte(runs, i) as usize / 16;
+        if n - gate < run {
+            return gate;
+        }
+        gate += run;
+        i += 1;
+    }
+    gate
+}
+
+fn check_runs(n_bins: usize, radial: usize, data: &[u8]) -> Check
+    ensures { λ r. ⌜ checkOf r ≡ then (rowAF1F «n_bins» radial (now («data» .entry))) (λ _. accepted tt) ⌝ }
+{
+    let expanded = rle_reach(data, n_bins);
+    if expanded != n_bins {
+        return Check::Refused(Level3DecodeError::RleExpansionMismatch {
+            radial,
+            expanded,
+            expected: n_bins,
+        });
+    }
+    Check::Passed
+}
+
+// Every place of the part gets v.
+fn fill(part: &mut [u16], v: u16)
+    ensures { λ _. ⌜ now (part .exit) ≡ replicate (length (now (part .entry))) v ⌝ }
+{
+    let mut i: usize = 0;
+    while i < part.len() {
+        part[i] = v;
+        i += 1;
+    }
+}
+
+// v at the first n places of the part, 16 at most. Whole blocks are stored, so the places after them may change too.
+fn spread(part: &mut [u16], n: usize, v: u16)
+    requires { ⌜ (n ≤ 16) × (n ≤ length (now part)) ⌝ }
+    ensures { λ _. ⌜ take n (now (part .exit)) ≡ replicate n v ⌝ }
+{
+    if part.len() < 16 {
+        fill(part, v);
+    } else {
+        fill(&mut part[..16], v);
+    }
+}
+
+// The runs' cells into the row, which they are known to fill.
+fn rle_write(runs: &[u8], row: &mut [u16])
+    requires { ⌜ reach (length (now row)) (now runs) ≡ length (now row) ⌝ }
+    ensures { λ _. ⌜ now (row .exit) ≡ take (length (now (row .entry))) (cells (now (runs .entry))) ⌝ }
+{
+    let mut gate: usize = 0;
+    let mut i: usize = 0;
+    while i < runs.len() {
+        let b = byte(runs, i) as usize;
+        let run = b / 16;
+        if row.len() - gate < run {
+            return;
+        }
+        spread(&mut row[gate..], run, (b % 16) as u16);
+        gate += run;
+        i += 1;
+    }
+}
+
+// ---- packet 28
+
+// The four bytes at a place put together with the first as the lowest, which the machine does in one load. The compiler sees that
+// in a function of its own alone: where the bytes are used at once, it keeps them apart.
+fn low_first(buf: &[u8], at: usize) -> u32
+    requires { ⌜ at + 4 ≤ length (now buf) ⌝ }
+    ensures { λ r. ⌜ eqb (r % 65536) 0 ≡ isLevel (u32At (now (buf .entry)) at) ⌝ }
+{
+    let a = byte(buf, at);
+    let b = byte(buf, at + 1);
+    let c = byte(buf, at + 2);
+    let d = byte(buf, at + 3);
+    a + b * 256 + c * 65536 + d * 16777216
+}
+
+// Whether the integer at a place is a level.
+fn is_level(buf: &[u8], at: usize) -> bool
+    requires { ⌜ at + 4 ≤ length (now buf) ⌝ }
+    ensures { λ r. ⌜ r ≡ isLevel (u32At (now (buf .entry)) at) ⌝ }
+{
+    low_first(buf, at) % 65536 == 0
+}
+
+fn both(a: bool, b: bool) -> bool
+    ensures { λ r. ⌜ r ≡ a && b ⌝ }
+{
+    if a { b } else { false }
+}
+
+// Whether all integers are levels. It looks at every one, so that the loop has no exit but its end.
+fn all_levels(buf: &[u8]) -> bool
+    ensures { λ r. ⌜ r ≡ all isLevel (words (now (buf .entry))) ⌝ }
+{
+    let mut ok = true;
+    let mut i = 0;
+    let mut left = buf.len() / 4;
+    while 0 < left {
+        ok = both(ok, is_level(buf, i * 4));
+        i = i + 1;
+        left = left - 1;
+    }
+    ok
+}
+
+// The number of the first that is not, or of all.
+fn search_bad(buf: &[u8]) -> usize
+    ensures { λ r. ⌜ r ≡ leading isLevel (words (now (buf .entry))) ⌝ }
+{
+    let mut i = 0;
+    let mut left = buf.len() / 4;
+    while 0 < left {
+        if 65535 < bytes::bytes::u32_at(buf, i * 4) {
+            return i;
+        }
+        i = i + 1;
+        left = left - 1;
+    }
+    i
+}
+
+fn check_levels(radial: usize, data: &[u8]) -> Check
+    ensures { λ r. ⌜ checkOf r ≡ then (levels radial 0 (words (now («data» .entry)))) (λ _. accepted tt) ⌝ }
+{
+    if all_levels(data) {
+        return Check::Passed;
+    }
+    let gate = search_bad(data);
+    let value = bytes::bytes::as_i32(bytes::bytes::u32_at(data, gate * 4));
+    Check::Refused(Level3DecodeError::XdrRawLevelOutOfRange {
+        radial,
+        gate,
+        value,
+    })
+}
+
+// Two bytes with the first as the lower. At 16 bits: at 32 the compiler keeps the bytes apart.
+fn low_first_half(buf: &[u8], at: usize) -> u16
+    requires { ⌜ at + 2 ≤ length (now buf) ⌝ }
+    ensures { λ r. ⌜ (r % 256 * 256 + r / 256 ≡ u16At (now (buf .entry)) at) × (r < 65536) ⌝ }
+{
+    wide(buf[at]) + wide(buf[at + 1]) * 256
+}
+
+fn half_at(buf: &[u8], at: usize) -> u16
+    requires { ⌜ at + 2 ≤ length (now buf) ⌝ }
+    ensures { λ r. ⌜ r ≡ u16At (now (buf .entry)) at ⌝ }
+{
+    let h = low_first_half(buf, at);
+    h % 256 * 256 + h / 256
+}
+
+// The levels of an array's body into the row. Each is its lower halfword.
+fn write_levels(body: &[u8], row: &mut [u16])
+    requires { ⌜ (length (now body) ≡ length (now row) * 4) × (all isLevel (words (now body)) ≡ true) ⌝ }
+    ensures { λ _. ⌜ now (row .exit) ≡ words (now (body .entry)) ⌝ }
+{
+    let mut i: usize = 0;
+    while i < row.len() {
+        row[i] = half_at(body, i * 4 + 2);
+        i += 1;
+    }
+}

@@ -1,0 +1,29 @@
+// Where a radial's data stand, and where a walk goes on.
+use crate::figures::Figures;
+use bytes::error::Level3DecodeError;
+
+// A radial's centre in degrees, and the place of its data.
+pub enum SpanRead {
+    Value {
+        azimuth: f64,
+        from: usize,
+        to: usize,
+    },
+    Refused(Level3DecodeError),
+}
+
+// The position after what was read.
+pub enum Next {
+    At(usize),
+    Refused(Level3DecodeError),
+}
+
+// A reading that was checked: its figures, the position of the first radial in the part that holds them, and the position after the last.
+pub enum PlanRead {
+    Value {
+        figures: Figures,
+        at: usize,
+        next: usize,
+    },
+    Refused(Level3DecodeError),
+}
