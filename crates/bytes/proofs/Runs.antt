@@ -10,8 +10,8 @@ use lib.Seq.{slice, getD-drop, drop-drop}
 use Rattle.bytes.specs.Bytes.{u16At, u32At}
 use Rattle.bytes.specs.Refusal.{Refusal}
 use Rattle.bytes.specs.Result.{Result, accepted, refused, then}
-use Rattle.bytes.specs.Reading.{Read, Flat, give, stop, left, skip, number, data-row, within, Width, half, word, size, valueAt, Given, more, after-row, run, Ended, passed, halted, onward, outcome, past-row, walk, _>>=_, _>>_, refuse-if, remaining, u16, u32, unread}
-use Rattle.bytes.proofs.Readings.{drop-take, then-passed, then-halted}
+use Rattle.bytes.specs.Reading.{Read, Flat, give, stop, left, skip, number, data-row, within, Width, half, word, size, valueAt, Given, more, after-row, run, Ended, passed, halted, onward, outcome, past-row, walk, _>>=_, _>>_, refuse-if, remaining, u16, u32, unread, radial-data}
+use Rattle.bytes.proofs.Readings.{drop-take, walk-check, then-passed, then-halted, parts}
 
 -- ---- one reading after another
 
@@ -283,3 +283,39 @@ module _ {W A : Type 0} where
   pub run-within : (w : W) (t : Read W A) (s : List ℕ) (p k : ℕ) → run (within w k t) s p ≡ shifted p (run t (slice p (p + k) s) 0)
   unfolding run
   run-within w t s p k = let e : p + 0 ≡ p = omega arith in ap (λ (m : ℕ). run t (take (p + k) s) m) (sym e) ∙ run-drop t (take (p + k) s) p 0
+
+-- ---- readings that differ in a part
+
+-- the same first part: what passes the one passes the other, if it does after that part
+pub same-first : {W A B : Type 0} (f g : A → Read W B) (t : Flat A) (s : List ℕ) (p : ℕ) {b : B} {q : ℕ}
+    → ((a : A) (m : ℕ) → passed b q ≡ walk (f a) s m → passed b q ≡ walk (g a) s m) → passed b q ≡ walk (t >>= f) s p → passed b q ≡ walk (t >>= g) s p
+same-first f g t s p h e =
+    let a = parts f t s p e in
+    h _ _ (a .second) ∙ sym (then-passed g t s p (a .first))
+
+-- the same where the value between them is not used
+pub same-first-by : {W A B : Type 0} (u v : Read W B) (t : Flat A) (s : List ℕ) (p : ℕ) {b : B} {q : ℕ} → ((m : ℕ) → passed b q ≡ walk u s m → passed b q ≡ walk v s m)
+    → passed b q ≡ walk (t >> u) s p → passed b q ≡ walk (t >> v) s p
+unfolding _>>_
+same-first-by u v t s p h e = same-first (λ _. u) (λ _. v) t s p (λ _. h) e
+
+-- a test that does not hold
+pub past-check : {W A : Type 0} (b : Bool) (x : Refusal) (u : Read W A) (s : List ℕ) (p : ℕ) {a : A} {q : ℕ} → b ≡ false → passed a q ≡ walk u s p
+    → passed a q ≡ walk (refuse-if b x >> u) s p
+unfolding _>>_
+past-check b x u s p h e = e ∙ sym (walk-check b x (λ _. u) s p ∙ ap (λ c. cond c (halted x p) (walk u s p)) h)
+
+-- first parts with the same run
+pub same-last : {W A B : Type 0} (f : A → Read W B) (t u : Flat A) (s : List ℕ) (p : ℕ) → run t s p ≡ run u s p → run (t >>= f) s p ≡ run (u >>= f) s p
+same-last f t u s p e = run-then f t s p ∙ ap (λ r. and-then r (λ a q. run (f a) s q)) e ∙ sym (run-then f u s p)
+
+-- ---- a radial: a plain frame, its data, its value; and then another reading
+
+module _ {W A B C : Type 0} (size : A → ℕ) (row : A → List ℕ → Result (List ℕ)) (value : A → B) (f : B → Read W C) (t : Flat A) (plain : Plain t) (s : List ℕ) (p : ℕ) where
+  pub row-passed : {a : A} {q : ℕ} → passed a q ≡ walk t s p
+      → run ((t >>= λ a. radial-data (size a) (row a) >> give (value a)) >>= f) s p ≡ after-row (row a (slice q (q + size a) s)) (run (f (value a)) s (q + size a))
+  unfolding run _>>=_ _>>_ radial-data
+  row-passed e = ap (λ u. run u s p) (then-then _ f t) ∙ run-passed _ t plain s p e
+
+  pub row-halted : {x : Refusal} {q : ℕ} → halted x q ≡ walk t s p → refused x ≡ run ((t >>= λ a. radial-data (size a) (row a) >> give (value a)) >>= f) s p
+  row-halted e = run-halted _ t plain s p e ∙ sym (ap (λ u. run u s p) (then-then _ f t))

@@ -3,19 +3,19 @@ use Prim.Native.Nat.{ℕ, _+_, _*_, _-_, _≤_, _<_}
 use native.Mathlib.Omega.{arith}
 use mathlib.Core.List.{List, [], _∷_}
 use mathlib.Core.Bool.{Bool, true, false, cond, not, _||_}
-use mathlib.Core.Path.{_≡_, refl, sym, ap, _∙_}
+use mathlib.Core.Path.{_≡_, refl, _∙_}
 use lib.ListN.{length}
 use lib.Dec.{ltb, eqb}
 use lib.Ieee.{Float}
 use borrow.Author.Tests.{lt-ltb, le-ltb, eq-eqb, ne-eqb}
 use Rattle.bytes.specs.Bytes.{u16At}
 use Rattle.bytes.specs.Refusal.{kind, nat, float}
-use Rattle.bytes.specs.Result.{Result, accepted, refused}
-use Rattle.bytes.specs.Reading.{Flat, give, _>>=_, _>>_, remaining, u16, unread, refuse-if, Ended, passed, halted, outcome, walk}
+use Rattle.bytes.specs.Result.{accepted, refused}
+use Rattle.bytes.specs.Reading.{_>>=_, _>>_, remaining, u16, unread, Ended, passed, halted, outcome, walk}
 use Rattle.bytes.proofs.Readings.{walk-checks, walk-checks-then, then-passed}
 use Rattle.symbology.specs.Centre.{centre, widthDegrees}
-use Rattle.symbology.specs.Symbology.{Header, covered, countWrong, frame, firstBin, isEmpty, overBody, packetHeader}
-use Rattle.symbology.specs.Walk.{Span, Place, beamSpan, placed, firstOf}
+use Rattle.symbology.specs.Symbology.{counts, Header, covered, countWrong, frame, firstBin, isEmpty, overBody, packetHeader}
+use Rattle.symbology.specs.Walk.{beamSpan, placed, firstOf}
 use Rattle.symbology.specs.declared.figures.Packet.{Packet}
 use Rattle.symbology.specs.declared.figures.Packet.the-variants.{Packet16, PacketAf1f, Packet28}
 
@@ -55,20 +55,6 @@ module _ (packet : Packet) (radials bins r : ℕ) (s : List ℕ) (p : ℕ) where
         beam-whole h st k m = rw (beam-is, ← left, ← w, ← c, ← wd, ← rest, ← wr, ← st) (simp (le-ltb _ _ six, narrow, h, k, m))
 
 -- ---- the packet header
-
--- from byte 20 on
-abbrev counts : Packet → ℕ → Flat Header
-counts packet first = do
-  bins ← u16
-  unread 4
-  range ← u16
-  radials ← u16
-  refuse-if (isEmpty radials bins) (kind 15 (nat radials ∷ nat bins ∷ []))
-  refuse-if (ltb 4000000 (radials * bins)) (kind 16 (nat radials ∷ nat bins ∷ nat (radials * bins) ∷ nat 4000000 ∷ []))
-  refuse-if (not (eqb first 0)) (kind 17 (nat first ∷ []))
-  room ← remaining
-  refuse-if (overBody packet radials bins room) (kind 18 (nat radials ∷ nat bins ∷ nat (radials * (6 + bins)) ∷ nat room ∷ []))
-  give (record { radials = radials; bins = bins; range = range })
 
 first-is : (packet : Packet) (s : List ℕ) → (packet ≡ Packet28 → ⊥) → passed (firstOf packet s) 20 ≡ walk (firstBin packet) s 18
 unfolding firstBin walk u16 unread _>>_ _>>=_

@@ -24,11 +24,11 @@ use Rattle.symbology.proofs.FullRow.{row-made}
 
 -- ---- two's complement
 
-signed-low : (half n : ℕ) → n < half → signed half n ≡ pos n
+pub signed-low : (half n : ℕ) → n < half → signed half n ≡ pos n
 unfolding signed
 signed-low half n h = simp (lt-ltb n half h)
 
-signed-high : (half top n : ℕ) → half + half ≡ suc top → half ≤ n → n < suc top → signed half n ≡ negsuc (suc top - suc n)
+pub signed-high : (half top n : ℕ) → half + half ≡ suc top → half ≤ n → n < suc top → signed half n ≡ negsuc (suc top - suc n)
 unfolding signed
 signed-high half top n e h k = rw e (simp (le-ltb n half h, lt-ltb n (suc top) k))
 
@@ -41,7 +41,7 @@ ranged-level v small low high = go (leb v 2147483647) refl
     go false e = absurd (false≢true (rw (signed-high 2147483648 4294967295 v refl (omega (arith, leb-false v 2147483647 e)) small) at low))
 
 -- four bytes make less than 2³²
-u32-small : (bytes : List ℕ) (i : ℕ) → ((i : ℕ) → getD bytes i 0 < 256) → u32At bytes i < 4294967296
+pub u32-small : (bytes : List ℕ) (i : ℕ) → ((i : ℕ) → getD bytes i 0 < 256) → u32At bytes i < 4294967296
 unfolding u32At u16At
 u32-small bytes i h = omega (arith, h i, h (i + 1), h (i + 2), h (i + 2 + 1))
 

@@ -13,6 +13,7 @@ pub mod LevelLoops
 pub mod Ending
 pub mod Beams
 pub mod Strips
+pub mod Payload
 pub mod Containment
 pub mod Path
 pub mod Marks
@@ -21,3 +22,7 @@ pub mod RowPlaces
 pub mod DamageWords
 pub mod Walking
 pub mod Writing
+pub mod Strips28
+pub mod Table
+pub mod Decode
+pub mod Bodies

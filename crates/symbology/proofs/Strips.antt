@@ -1,13 +1,13 @@
 -- Packet 28: a radial's frame, as the code goes through its items. Assumes nothing.
-use Prim.Native.Nat.{ℕ, zero, suc, _+_, _*_, _-_, _≤_, _<_}
+use Prim.Native.Nat.{ℕ, zero, suc, _+_, _*_, _-_, _≤_}
 use native.Mathlib.Omega.{arith}
-use mathlib.Core.List.{List, [], _∷_}
-use mathlib.Core.Bool.{Bool, true, false, cond, not}
+use mathlib.Core.List.{List}
+use mathlib.Core.Bool.{false, _&&_}
 use mathlib.Core.Path.{_≡_, refl, sym, ap, _∙_}
 use lib.ListN.{length}
 use lib.Dec.{eqb, ltb}
 use lib.Ieee.{Float}
-use borrow.Author.Tests.{eqb-true, not-false}
+use borrow.Author.Tests.{eqb-true, not-false, ltb-false}
 use Rattle.bytes.specs.Refusal.{Refusal}
 use Rattle.bytes.specs.Result.{accepted, refused}
 use Rattle.bytes.specs.Reading.{give, Ended, passed, halted, onward, walk}
@@ -15,7 +15,7 @@ use Rattle.bytes.proofs.Readings.{walk-then, parts, parts-by, passed-check, wal
 use Rattle.xdr.proofs.Items.{array-count-end}
 use Rattle.xdr.specs.Xdr.{atLeast0}
 use Rattle.symbology.specs.Symbology.{Strip, xdrFrame}
-use Rattle.symbology.specs.Walk.{Span, Place, expectedOf, stripThen, stripSpan, placed}
+use Rattle.symbology.specs.Walk.{expectedOf, stripThen, stripSpan, placed}
 use Rattle.xdr.specs.declared.xdr.Step.{Step}
 use Rattle.xdr.specs.declared.xdr.Step.the-variants as Step
 use Rattle.xdr.specs.Answers.{stepOf}
@@ -25,14 +25,19 @@ pub strip-then : (azimuth : Float) (bins : ℕ) (st : Step) → stripThen azimut
 strip-then azimuth bins (Step.At p) = refl
 strip-then azimuth bins (Step.Refused e p) = refl
 
+first-cells : (r cells : ℕ) → r ≡ 0 → (eqb r 0 && ltb 4000000 cells) ≡ false → cells ≤ 4000000
+first-cells zero cells h k = ltb-false _ _ k
+first-cells (suc r) cells h k = absurd (omega (arith, h))
+
 -- What a frame that passed shows: its bins are those expected, and its data are there.
-pub record Framed (expected : ℕ → ℕ) (s : List ℕ) (strip : Strip) (q : ℕ) : Type 0 where
+pub record Framed (radials r : ℕ) (expected : ℕ → ℕ) (s : List ℕ) (strip : Strip) (q : ℕ) : Type 0 where
   pub bins-are : strip .bins ≡ expected (strip .bins)
   pub room : strip .bins * 4 ≤ length s - q
   pub inside : q ≤ length s
+  pub cells : r ≡ 0 → radials * strip .bins ≤ 4000000
 
 pub framed : (radials r : ℕ) (expected : ℕ → ℕ) (s : List ℕ) (p : ℕ) (strip : Strip) (q : ℕ) → passed strip q ≡ walk (xdrFrame radials r expected) s p
-    → Framed expected s strip q
+    → Framed radials r expected s strip q
 unfolding xdrFrame
 framed radials r expected s p strip q e =
     let a = parts _ _ s p e in
@@ -46,16 +51,16 @@ framed radials r expected s p strip q e =
     let h₂ = passed-check _ _ _ s _ (h₁ .1) in
     let h₃ = passed-check _ _ _ s _ (h₂ .1) in
     let h₄ = passed-check _ _ _ s _ (h₃ .1) in
-    last (g .value) (atLeast0 (d .value)) (eqb-true _ _ (not-false _ (h₂ .0))) (eqb-true _ _ (not-false _ (h₃ .0))) (k .1) (k .2) (h₄ .1 ∙ walk-give _ s _)
+    last (g .value) (atLeast0 (d .value)) (eqb-true _ _ (not-false _ (h₂ .0))) (eqb-true _ _ (not-false _ (h₃ .0))) (k .1) (k .2) (λ h. first-cells r (radials * atLeast0 (d .value)) h (h₄ .0)) (h₄ .1 ∙ walk-give _ s _)
   where
-    last : (n bins : ℕ) {m : ℕ} {azimuth : Float} → bins ≡ expected bins → n ≡ bins → n * 4 ≤ length s - m → m ≤ length s
-        → passed strip q ≡ passed (record { azimuth = azimuth; bins = bins }) m → Framed expected s strip q
-    last n bins {m} {azimuth} x h k l e =
+    last : (n bins : ℕ) {m : ℕ} {azimuth : Float} → bins ≡ expected bins → n ≡ bins → n * 4 ≤ length s - m → m ≤ length s → (r ≡ 0 → radials * bins ≤ 4000000)
+        → passed strip q ≡ passed (record { azimuth = azimuth; bins = bins }) m → Framed radials r expected s strip q
+    last n bins {m} {azimuth} x h k l y e =
         let a : q ≡ m = cc in
         let b : strip ≡ record { azimuth = azimuth; bins = bins } = cc in
         let c : strip .bins ≡ bins = ap (λ x. x .bins) b in
         let d : bins ≡ n = sym h in
-        rw (b, a) (record { bins-are = x; room = rw d k; inside = l })
+        rw (b, a) (record { bins-are = x; room = rw d k; inside = l; cells = y })
 
 -- ---- the place of its data
 

@@ -1,12 +1,11 @@
 -- The walk over the radials, one for all packets: what the code's answers say of it. Assumes nothing.
-use Prim.Native.Nat.{ℕ, zero, suc, _+_, _*_, _-_, _≤_, _<_}
-use native.Mathlib.Nat.{not-suc-le-zero}
+use Prim.Native.Nat.{ℕ, suc, _+_, _*_, _-_, _≤_, _<_}
 use native.Mathlib.Numerals.{add-one}
 use native.Mathlib.Omega.{arith}
-use mathlib.Core.List.{List, [], _∷_, _++_}
-use mathlib.Core.Bool.{Bool, true, false, cond, _||_}
+use mathlib.Core.List.{List, _∷_}
+use mathlib.Core.Bool.{Bool, true, false, _||_}
 use mathlib.Core.Path.{_≡_, refl, sym, ap, _∙_}
-use lib.ListN.{length, take, drop, length-append}
+use lib.ListN.{length, take, drop}
 use lib.Seq.{slice}
 use lib.Dec.{ltb, eqb}
 use lib.Ieee.{Float}
@@ -14,16 +13,14 @@ use borrow.Author.Tests.{ltb-false}
 use Rattle.bytes.specs.Bytes.{u16At}
 use Rattle.bytes.specs.Refusal.{Refusal}
 use Rattle.bytes.specs.Result.{Result, accepted, refused, then}
-use Rattle.bytes.specs.Reading.{Flat, give, _>>=_, _>>_, radial-data, more, after-row, run, Given, Ended, passed, halted, onward, past-row, walk}
+use Rattle.bytes.specs.Reading.{give, _>>=_, _>>_, radial-data, Ended, passed, halted, onward, past-row, walk}
 use Rattle.bytes.proofs.Readings.{walk-then, walk-give, then-passed, then-halted, part-slice, parts, past-test}
-use Rattle.bytes.proofs.Runs.{Plain, plain-then, plain-by, plain-give, plain-check, plain-remaining, plain-u16, run-then, run-passed, run-parts, plain-passed, prepend, and-then}
-use Rattle.xdr.proofs.Plains.{plain-pass, plain-int, plain-float, plain-string, plain-array-count}
 use Rattle.symbology.specs.Rows.{rowOf}
 use Rattle.symbology.specs.Places.{Enough}
-use Rattle.symbology.specs.Symbology.{Strip, covered, countWrong, frame, xdrFrame}
+use Rattle.symbology.specs.Symbology.{covered, countWrong}
 use Rattle.symbology.specs.Walk.{Span, Place, expectedOf, beamSpan, stripSpan, anyFrame, anyRadial, anyWalk, placed, position}
 use Rattle.symbology.proofs.Beams.{beam-is}
-use Rattle.symbology.proofs.Strips.{Framed, framed}
+use Rattle.symbology.proofs.Strips.{framed}
 use Rattle.symbology.specs.declared.figures.Packet.{Packet}
 use Rattle.symbology.specs.declared.figures.Packet.the-variants.{Packet16, PacketAf1f, Packet28}
 
@@ -77,10 +74,10 @@ module _ (radials bins r : ℕ) (s : List ℕ) (p : ℕ) where
           let b : sp ≡ record { azimuth = azimuth; size = n * 4 } = cc in
           rw (b, a) (record { inside = omega arith; enough = ap (λ x. x * 4) h })
 
-no28 : Packet16 ≡ Packet28 → ⊥
+pub no28 : Packet16 ≡ Packet28 → ⊥
 no28 h = let z : _≡_ {A = ℕ} 0 1 = cc in omega arith
 
-no28' : PacketAf1f ≡ Packet28 → ⊥
+pub no28' : PacketAf1f ≡ Packet28 → ⊥
 no28' h = let z : _≡_ {A = ℕ} 0 1 = cc in omega arith
 
 pub spanned : (packet : Packet) (radials bins r : ℕ) (s : List ℕ) (p : ℕ) (sp : Span) (q : ℕ) → passed sp q ≡ walk (anyFrame packet radials bins r) s p → Spanned packet bins s sp q

@@ -6,21 +6,19 @@ use native.Mathlib.Omega.{arith}
 use mathlib.Core.List.{List, [], _∷_, _++_, append-nil}
 use mathlib.Core.Path.{_≡_, refl, sym, ap, _∙_}
 use lib.ListN.{length, take, drop, set, length-append, length-take, length-drop}
-use lib.Seq.{slice, length-take-le}
+use lib.Seq.{length-take-le}
 use lib.Ieee.{Float}
 use borrow.Rule.Slice.PartMut.{putMid, midOf}
 use Rattle.bytes.specs.Refusal.{Refusal}
-use Rattle.bytes.specs.Result.{Result, accepted, refused, then, lent}
-use Rattle.bytes.specs.Reading.{Flat, give, _>>=_, _>>_, radial-data, more, after-row, run, Given, passed, walk}
-use Rattle.bytes.proofs.Readings.{part-slice}
+use Rattle.bytes.specs.Result.{Result, accepted, refused}
+use Rattle.bytes.specs.Reading.{_>>=_, _>>_, radial-data, more, after-row, run, Given, passed, walk}
 use Rattle.bytes.proofs.Runs.{Plain, plain-then, plain-by, plain-give, plain-check, plain-remaining, plain-u16, run-passed, run-parts, plain-passed}
 use Rattle.bytes.proofs.Parts.{Laid, laid-first, laid-end, laid-put, laid-set}
 use Rattle.xdr.proofs.Plains.{plain-pass, plain-int, plain-float, plain-string, plain-array-count}
 use Rattle.symbology.specs.Answers.{joined}
 use Rattle.symbology.specs.Rows.{rowOf, codesOf, FullRow}
-use Rattle.symbology.specs.Places.{Enough}
 use Rattle.symbology.specs.Symbology.{frame, xdrFrame}
-use Rattle.symbology.specs.Walk.{Span, Place, beamSpan, stripSpan, anyFrame, anyRadial, anyWalk, placed, Accepted, firstRow, rowIn, centreIn}
+use Rattle.symbology.specs.Walk.{Span, beamSpan, stripSpan, anyFrame, anyRadial, anyWalk, placed, Accepted, firstRow, rowIn, centreIn}
 use Rattle.symbology.proofs.FullRow.{full-row}
 use Rattle.symbology.proofs.Walking.{Found, data-is, spanned}
 use Rattle.symbology.specs.declared.figures.Packet.{Packet}

@@ -61,16 +61,20 @@ unfoldable pub tooFew : Room → ℕ → Bool
 tooFew Room.Unasked n = false
 tooFew (Room.Places k) n = ltb k n
 
--- What stands between a body's reading and its picture: 10 for a packet that is not asked for, 9, and 36 for a short buffer, of azimuths
--- (`na` places), codes (`nc`) and physical values, in this order. No row is looked at.
+-- 36, of the first buffer that is too short: azimuths (`na` places), codes (`nc`), physical values
+unfoldable pub roomIn : Terms → ℕ → ℕ → ℕ → ℕ → Result (Unit {0})
+roomIn t na nc radials cells =
+    refuse (ltb na radials) (kind 36 (buffer Buffer.Azimuths ∷ []))
+    (refuse (ltb nc cells) (kind 36 (buffer Buffer.Codes ∷ []))
+    (refuse (tooFew (t .physical) cells) (kind 36 (buffer Buffer.Physical ∷ []))
+    (accepted tt)))
+
+-- What stands between a body's reading and its picture: 10 for a packet that is not asked for, 9, 36. No row is looked at.
 unfoldable pub admit : Terms → ℕ → ℕ → Figures → Result (Unit {0})
 admit t na nc f =
     refuse (not (asked t (f .packet))) (kind 10 [])
     (stepTest (t .increment)
-    (refuse (ltb na (f .«n_radials»)) (kind 36 (buffer Buffer.Azimuths ∷ []))
-    (refuse (ltb nc (f .«n_radials» * f .«n_bins»)) (kind 36 (buffer Buffer.Codes ∷ []))
-    (refuse (tooFew (t .physical) (f .«n_radials» * f .«n_bins»)) (kind 36 (buffer Buffer.Physical ∷ []))
-    (accepted tt)))))
+    (roomIn t na nc (f .«n_radials») (f .«n_radials» * f .«n_bins»)))
 
 -- the reading of a body on terms
 unfoldable pub decodeFor : Terms → List ℕ → ℕ → ℕ → Result Picture

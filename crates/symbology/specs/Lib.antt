@@ -4,6 +4,7 @@ pub mod Rows
 pub mod Runs
 pub mod Levels
 pub mod Symbology
+pub mod Table
 pub mod Answers
 pub mod Walk
 pub mod Damage

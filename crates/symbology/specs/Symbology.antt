@@ -97,12 +97,9 @@ pub record Header : Type 0 where
   pub bins : ℕ
   pub range : ℕ
 
--- from byte 18 on: 12, 15, 16; packet 16 also 17, 18
-unfoldable pub packetHeader : Packet → Flat Header
-packetHeader packet = do
-  avail ← remaining
-  refuse-if (ltb avail 12) (kind 12 (nat (18 + avail) ∷ []))
-  first ← firstBin packet
+-- from byte 20 on: 15, 16; packet 16 also 17, 18
+abbrev pub counts : Packet → ℕ → Flat Header
+counts packet first = do
   bins ← u16
   unread 4
   range ← u16
@@ -113,6 +110,14 @@ packetHeader packet = do
   room ← remaining
   refuse-if (overBody packet radials bins room) (kind 18 (nat radials ∷ nat bins ∷ nat (radials * (6 + bins)) ∷ nat room ∷ []))
   give (record { radials = radials; bins = bins; range = range })
+
+-- from byte 18 on: 12, and the counts
+unfoldable pub packetHeader : Packet → Flat Header
+packetHeader packet = do
+  avail ← remaining
+  refuse-if (ltb avail 12) (kind 12 (nat (18 + avail) ∷ []))
+  first ← firstBin packet
+  counts packet first
 
 unfoldable pub radialPacket : Packet → Read (Unit {0}) Sweep
 radialPacket packet = do

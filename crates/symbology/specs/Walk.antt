@@ -4,18 +4,20 @@ use mathlib.Core.List.{List, [], _∷_}
 use mathlib.Core.Path.{_≡_}
 use mathlib.Core.Bool.{Bool, true, false, not}
 use lib.Dec.{eqb}
+use lib.ListN.{length}
+use lib.Seq.{slice}
 use lib.IntN.{pos}
 use lib.Signed.{leZ, ltZ}
 use lib.Ieee.{Float}
 use Rattle.bytes.specs.Refusal.{refusalOf, kind, nat, whole}
 use Rattle.bytes.specs.Bytes.{u16At}
 use Rattle.bytes.specs.Result.{Result, accepted, refused, then}
-use Rattle.bytes.specs.Reading.{Flat, give, _>>=_, _>>_, radial-data, refuse-if, run, Given, Ended, passed, halted, onward}
+use Rattle.bytes.specs.Reading.{Read, Flat, give, remaining, _>>=_, _>>_, radial-data, refuse-if, run, Given, Ended, passed, halted, onward}
 use Rattle.xdr.specs.Xdr as Xdr
-use Rattle.xdr.specs.Xdr.{int, string, atLeast0, counted, parameter}
+use Rattle.xdr.specs.Xdr.{int, string, atLeast0, pointer, elements, counted, parameter}
 use Rattle.symbology.specs.Centre.{centre}
 use Rattle.symbology.specs.Rows.{rowOf}
-use Rattle.symbology.specs.Symbology.{Sweep, Header, Strip, covered, frame, xdrFrame}
+use Rattle.symbology.specs.Symbology.{Sweep, Header, Strip, covered, frame, xdrFrame, component, only}
 use Rattle.symbology.specs.declared.figures.Packet.{Packet}
 use Rattle.symbology.specs.declared.figures.Packet.the-variants.{Packet16, PacketAf1f, Packet28}
 use Rattle.xdr.specs.declared.xdr.Step.{Step}
@@ -25,6 +27,8 @@ use Rattle.symbology.specs.declared.generic.GatesRead.{GatesRead}
 use Rattle.symbology.specs.declared.generic.GatesRead.the-variants as GatesRead
 use Rattle.symbology.specs.declared.spans.PlanRead.{PlanRead}
 use Rattle.symbology.specs.declared.spans.PlanRead.the-variants as PlanRead
+use Rattle.symbology.specs.declared.spans.BodyPlan.{BodyPlan}
+use Rattle.symbology.specs.declared.spans.BodyPlan.the-variants as BodyPlan
 use Rattle.symbology.specs.declared.figures.Figures.{Figures}
 use Rattle.symbology.specs.declared.radials.HeaderRead.{HeaderRead}
 use Rattle.symbology.specs.declared.radials.HeaderRead.the-variants as HeaderRead
@@ -166,6 +170,17 @@ reached (halted x p) = refused x
 abbrev pub gatesThen : ℕ → Float → Float → Ended (Unit {0}) → Result (Gates28 × ℕ)
 gatesThen n w f e = reached (onward e (λ _ p. passed (record { radials = n; gateWidth = w; firstGate = f }) p))
 
+-- what follows the list: 28, 35
+abbrev pub onlyWhole : List Sweep → Read (Unit {0}) Sweep
+onlyWhole components = only components >>= λ sweep. remaining >>= λ rest. refuse-if (not (eqb rest 0)) (kind 35 (nat rest ∷ [])) >> give sweep
+
+-- n components and what follows them; a component after a pointer
+abbrev pub listed : ℕ → Read (Unit {0}) Sweep
+listed n = elements component n >>= onlyWhole
+
+abbrev pub nextComponent : Flat Sweep
+nextComponent = pointer >> component
+
 -- a sweep from its figures and the run of its radials
 abbrev pub sweepFrom : Figures → Result (Given (List Float)) → Result (Given Sweep)
 sweepFrom f (accepted g) = accepted (record { value = record { figures = f; azimuths = g .value }; next = g .next; rows = g .rows })
@@ -175,6 +190,7 @@ sweepFrom f (refused x) = refused x
 pub record Planned (figures : Figures) (at next : ℕ) (s : List ℕ) (R : Result (Given Sweep)) : Type 0 where
   pub radials : Given (List Float)
   pub small : figures .«n_radials» ≤ 100000
+  pub cells : figures .«n_radials» * figures .«n_bins» ≤ 4000000
   pub radials-are : run (anyWalk (figures .packet) (figures .«n_radials») (figures .«n_bins») (figures .«n_radials») 0) s at ≡ accepted radials
   pub next-is : radials .next ≡ next
   pub whole : R ≡ sweepFrom figures (accepted radials)
@@ -182,3 +198,18 @@ pub record Planned (figures : Figures) (at next : ℕ) (s : List ℕ) (R : Resul
 unfoldable pub Plans : PlanRead → List ℕ → Result (Given Sweep) → Type 0
 Plans (PlanRead.Value f at next) s R = Planned f at next s R
 Plans (PlanRead.Refused e) s R = refused (refusalOf e) ≡ R
+
+-- The same of a body, whose radials stand in a part of it.
+pub record Plotted (figures : Figures) (from to at : ℕ) (body : List ℕ) (R : Result (Given Sweep)) : Type 0 where
+  pub radials : Given (List Float)
+  pub end : ℕ
+  pub small : figures .«n_radials» ≤ 100000
+  pub cells : figures .«n_radials» * figures .«n_bins» ≤ 4000000
+  pub ordered : from ≤ to
+  pub inside : to ≤ length body
+  pub radials-are : run (anyWalk (figures .packet) (figures .«n_radials») (figures .«n_bins») (figures .«n_radials») 0) (slice from to body) at ≡ accepted radials
+  pub whole : R ≡ accepted (record { value = record { figures = figures; azimuths = radials .value }; next = end; rows = radials .rows })
+
+unfoldable pub Plots : BodyPlan → List ℕ → Result (Given Sweep) → Type 0
+Plots (BodyPlan.Value f from to at) body R = Plotted f from to at body R
+Plots (BodyPlan.Refused e) body R = refused (refusalOf e) ≡ R

@@ -59,7 +59,7 @@ pub struct FrameStep {
 }
 
 // A radial's frame: all six items, then 29, 31, 32, 33. `first` where the number of bins is not known yet.
-fn xdr_frame(
+pub fn xdr_frame(
     buf: &[u8],
     st: Step,
     n_radials: usize,
@@ -149,7 +149,7 @@ pub fn strip_span(buf: &[u8], at: usize, n_radials: usize, n_bins: usize, r: usi
 }
 
 // The product description block and its parameters: nothing is kept.
-fn product_block(buf: &[u8], st: Step) -> Step
+pub fn product_block(buf: &[u8], st: Step) -> Step
     ensures { λ r. ⌜ stepOf r ≡ after productBlock (now (buf .entry)) (stepOf st) ⌝ }
 {
     let t1 = skip_string(buf, st); // name
@@ -199,7 +199,7 @@ fn gates_read(n_radials: usize, gate_width_m: f32, first_gate_m: f32, then: Step
 }
 
 // A component's type, description, gate figures, parameters and number of radials: 27, 29, 30.
-fn component_head(buf: &[u8], at: usize) -> GatesRead
+pub fn component_head(buf: &[u8], at: usize) -> GatesRead
     ensures { λ r. ⌜ gatesOf r ≡ reached (walk componentHead (now (buf .entry)) at) ⌝ }
 {
     let k = xdr::steps::int_after(buf, Step::At(at));

@@ -27,3 +27,14 @@ pub enum PlanRead {
     },
     Refused(Level3DecodeError),
 }
+
+// The same of a body, whose radials stand from `at` on in its part from..to.
+pub enum BodyPlan {
+    Value {
+        figures: Figures,
+        from: usize,
+        to: usize,
+        at: usize,
+    },
+    Refused(Level3DecodeError),
+}

@@ -1,6 +1,8 @@
 // The walks over the radials, for all packets: one that checks, and one that writes once all is checked.
+use crate::figures::Figures;
 use crate::figures::Packet;
 use crate::spans::Next;
+use crate::spans::PlanRead;
 use crate::spans::SpanRead;
 use crate::trailing::Check;
 ghost use mathlib.Core.Path.{_≡_};
@@ -11,7 +13,7 @@ ghost use lib.ListN.{length};
 ghost use Rattle.bytes.specs.Result.{accepted, lent};
 ghost use Rattle.bytes.specs.Reading.{walk, run, Given};
 ghost use Rattle.symbology.specs.Answers.{joined};
-ghost use Rattle.symbology.specs.Walk.{anyFrame, anyRadial, anyWalk, placeOf, placed, nextOf, position, Accepted, rowIn, centreIn};
+ghost use Rattle.symbology.specs.Walk.{anyFrame, anyRadial, anyWalk, placeOf, placed, nextOf, position, Accepted, rowIn, centreIn, sweepFrom, Plans};
 
 // A radial's centre and the place of its data.
 pub fn frame_span(
@@ -99,6 +101,18 @@ pub fn check_radials(
     Next::At(at)
 }
 
+// All radials with their figures.
+pub fn plan_radials(s: &[u8], at: usize, figures: Figures) -> PlanRead
+    requires { ⌜ (figures .«n_radials» ≤ 100000) × (figures .«n_radials» * figures .«n_bins» ≤ 4000000) ⌝ }
+    ensures { λ r. ⌜ Plans r (now (s .entry)) (sweepFrom figures (run (anyWalk (figures .packet) (figures .«n_radials») (figures .«n_bins») (figures .«n_radials») 0) (now (s .entry)) at)) ⌝ }
+{
+    let packet = figures.packet;
+    match check_radials(packet, s, at, figures.n_radials, figures.n_bins) {
+        Next::Refused(error) => PlanRead::Refused(error),
+        Next::At(next) => PlanRead::Value { figures, at, next },
+    }
+}
+
 // A radial that was written: its centre, and the position after it.
 pub struct Written {
     pub azimuth: f64,
@@ -148,13 +162,13 @@ pub fn write_radials(
 {
     let mut at = start;
     let mut cell: usize = 0;
-    let mut r: usize = 0;
-    while r < n_radials {
+    let mut radial: usize = 0;
+    while radial < n_radials {
         let end = cell + n_bins;
-        let w = write_radial(packet, s, at, n_radials, r, &mut codes[cell..end]);
-        azimuths[r] = w.azimuth;
+        let w = write_radial(packet, s, at, n_radials, radial, &mut codes[cell..end]);
+        azimuths[radial] = w.azimuth;
         at = w.next;
         cell = end;
-        r += 1;
+        radial += 1;
     }
 }

@@ -4,16 +4,12 @@ use native.Mathlib.Omega.{arith}
 use borrow.Author.Needs.{needs}
 use Rattle.symbology.proofs.generic.cells_of.Statement.{statement}
 use Rattle.symbology.proofs.generic.cells_of.Tie as tie
-use Rattle.symbology.proofs.generic.cells_of.Reads as reads
-use Rattle.symbology.proofs.generic.cells_of.Lts as lts
 
--- src/generic.rt:41:5
 mul-result : tie.Need-mul-result
 mul-result c = let h : c .args .n-bins ≤ 2147483647 = omega arith in
     let m : c .args .n-radials * c .args .n-bins ≤ 100000 * 2147483647 = mul-le-mul (c .pre .0) h in
     record { fits = omega arith }
 
--- src/generic.rt:37:1
 returns : tie.Need-returns
 returns c = search needs
 

@@ -13,65 +13,43 @@ use mathlib.Core.Path.{_≡_, refl, sym, ap, _∙_}
 use borrow.Author.Needs.{needs}
 use Rattle.symbology.proofs.generic.component_head.Statement.{statement}
 use Rattle.symbology.proofs.generic.component_head.Tie as tie
-use Rattle.symbology.proofs.generic.component_head.Reads as reads
-use Rattle.symbology.proofs.generic.component_head.Lts as lts
-use Rattle.symbology.proofs.generic.gates_read.Reads as gates-read-reads
-use Rattle.xdr.proofs.steps.float_after.Reads as float-after-reads
-use Rattle.xdr.proofs.steps.int_after.Reads as int-after-reads
-use Rattle.xdr.proofs.steps.refuse_if.Reads as refuse-if-reads
-use Rattle.xdr.proofs.steps.skip_parameters.Reads as skip-parameters-reads
-use Rattle.xdr.proofs.steps.skip_string.Reads as skip-string-reads
-use Rattle.xdr.proofs.xdr.at_least_0.Reads as at-least-0-reads
 
--- src/generic.rt:205:9
 int-after-requires : tie.Need-int-after-requires
 int-after-requires c κs = search needs
 
--- src/generic.rt:210:9
 at-least-0-requires : tie.Need-at-least-0-requires
 at-least-0-requires c κs = search needs
 
--- src/generic.rt:208:9
 refuse-if-requires : tie.Need-refuse-if-requires
 refuse-if-requires c κs = search needs
 
--- src/generic.rt:213:9
 skip-string-requires : tie.Need-skip-string-requires
 skip-string-requires c κs = search needs
 
--- src/generic.rt:214:9
 float-after-requires : tie.Need-float-after-requires
 float-after-requires c κs = search needs
 
--- src/generic.rt:217:9
 float-after-requires-2 : tie.Need-float-after-requires-2
 float-after-requires-2 c κs = search needs
 
--- src/generic.rt:220:9
 skip-parameters-requires : tie.Need-skip-parameters-requires
 skip-parameters-requires c κs = search needs
 
--- src/generic.rt:221:9
 int-after-requires-2 : tie.Need-int-after-requires-2
 int-after-requires-2 c κs = search needs
 
--- src/generic.rt:224:9
 at-least-0-requires-2 : tie.Need-at-least-0-requires-2
 at-least-0-requires-2 c κs = search needs
 
--- src/generic.rt:225:9
 refuse-if-requires-2 : tie.Need-refuse-if-requires-2
 refuse-if-requires-2 c κs = search needs
 
--- src/generic.rt:233:9
 refuse-if-requires-3 : tie.Need-refuse-if-requires-3
 refuse-if-requires-3 c κs = search needs
 
--- src/generic.rt:241:5
 gates-read-requires : tie.Need-gates-read-requires
 gates-read-requires c κs = search needs
 
--- src/generic.rt:202:1
 returns : tie.Need-returns
 unfolding componentHead
 returns c = let k = c .before .before .before .before .before .before .before .before .before .before .before .before .before .int-after .result .value in

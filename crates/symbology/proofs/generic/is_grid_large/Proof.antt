@@ -1,14 +1,10 @@
 use borrow.Author.Tests.{eq-eqb, ne-eqb}
 use Rattle.symbology.proofs.generic.is_grid_large.Statement.{statement}
 use Rattle.symbology.proofs.generic.is_grid_large.Tie as tie
-use Rattle.symbology.proofs.generic.is_grid_large.Reads as reads
-use Rattle.symbology.proofs.generic.is_grid_large.Lts as lts
 
--- src/generic.rt:49:9
 returns : tie.Need-returns
 returns c = simp (eq-eqb _ _ (c .if1 .taken))
 
--- src/generic.rt:45:1
 returns-2 : tie.Need-returns-2
 returns-2 c = simp (ne-eqb _ _ (c .if1 .left))
 

@@ -3,89 +3,64 @@ use Rattle.xdr.proofs.Lists.{after-by, after-give}
 use borrow.Author.Needs.{needs}
 use Rattle.symbology.proofs.generic.product_block.Statement.{statement}
 use Rattle.symbology.proofs.generic.product_block.Tie as tie
-use Rattle.symbology.proofs.generic.product_block.Reads as reads
-use Rattle.symbology.proofs.generic.product_block.Lts as lts
-use Rattle.xdr.proofs.steps.skip_parameters.Reads as skip-parameters-reads
-use Rattle.xdr.proofs.steps.skip_string.Reads as skip-string-reads
-use Rattle.xdr.proofs.steps.skip_word.Reads as skip-word-reads
 
--- src/generic.rt:155:9
 skip-string-requires : tie.Need-skip-string-requires
 skip-string-requires c κs = search needs
 
--- src/generic.rt:156:9
 skip-string-requires-2 : tie.Need-skip-string-requires-2
 skip-string-requires-2 c κs = search needs
 
--- src/generic.rt:157:9
 skip-word-requires : tie.Need-skip-word-requires
 skip-word-requires c κs = search needs
 
--- src/generic.rt:158:9
 skip-word-requires-2 : tie.Need-skip-word-requires-2
 skip-word-requires-2 c κs = search needs
 
--- src/generic.rt:159:9
 skip-word-requires-3 : tie.Need-skip-word-requires-3
 skip-word-requires-3 c κs = search needs
 
--- src/generic.rt:160:9
 skip-string-requires-3 : tie.Need-skip-string-requires-3
 skip-string-requires-3 c κs = search needs
 
--- src/generic.rt:161:9
 skip-word-requires-4 : tie.Need-skip-word-requires-4
 skip-word-requires-4 c κs = search needs
 
--- src/generic.rt:162:9
 skip-word-requires-5 : tie.Need-skip-word-requires-5
 skip-word-requires-5 c κs = search needs
 
--- src/generic.rt:163:9
 skip-word-requires-6 : tie.Need-skip-word-requires-6
 skip-word-requires-6 c κs = search needs
 
--- src/generic.rt:164:9
 skip-word-requires-7 : tie.Need-skip-word-requires-7
 skip-word-requires-7 c κs = search needs
 
--- src/generic.rt:165:9
 skip-word-requires-8 : tie.Need-skip-word-requires-8
 skip-word-requires-8 c κs = search needs
 
--- src/generic.rt:166:9
 skip-word-requires-9 : tie.Need-skip-word-requires-9
 skip-word-requires-9 c κs = search needs
 
--- src/generic.rt:167:9
 skip-word-requires-10 : tie.Need-skip-word-requires-10
 skip-word-requires-10 c κs = search needs
 
--- src/generic.rt:168:9
 skip-word-requires-11 : tie.Need-skip-word-requires-11
 skip-word-requires-11 c κs = search needs
 
--- src/generic.rt:169:9
 skip-word-requires-12 : tie.Need-skip-word-requires-12
 skip-word-requires-12 c κs = search needs
 
--- src/generic.rt:170:9
 skip-word-requires-13 : tie.Need-skip-word-requires-13
 skip-word-requires-13 c κs = search needs
 
--- src/generic.rt:171:9
 skip-word-requires-14 : tie.Need-skip-word-requires-14
 skip-word-requires-14 c κs = search needs
 
--- src/generic.rt:172:9
 skip-word-requires-15 : tie.Need-skip-word-requires-15
 skip-word-requires-15 c κs = search needs
 
--- src/generic.rt:173:5
 skip-parameters-requires : tie.Need-skip-parameters-requires
 skip-parameters-requires c κs = search needs
 
--- src/generic.rt:152:1
 returns : tie.Need-returns
 unfolding productBlock
 returns c = after-by _ _ _ _ (c .before .before .before .before .before .before .before .before .before .before .before .before .before .before .before .before .before .before .skip-string .ensures)

@@ -1,42 +1,32 @@
 use Rattle.symbology.proofs.Strips.{framed, span-whole, span-halted}
 use Rattle.symbology.specs.Walk.{stripThen}
 use Rattle.xdr.proofs.Lists.{from-passed}
-use mathlib.Core.Path.{_≡_, sym, ap, _∙_}
+use mathlib.Core.Path.{sym, ap, _∙_}
 use native.Mathlib.Omega.{arith}
 use borrow.Author.Needs.{needs}
 use Rattle.symbology.proofs.generic.strip_span.Statement.{statement}
 use Rattle.symbology.proofs.generic.strip_span.Tie as tie
-use Rattle.symbology.proofs.generic.strip_span.Reads as reads
-use Rattle.symbology.proofs.generic.strip_span.Lts as lts
-use Rattle.symbology.proofs.generic.xdr_frame.Reads as xdr-frame-reads
 
--- src/generic.rt:137:9
 xdr-frame-requires : tie.Need-xdr-frame-requires
 xdr-frame-requires c κs = search needs
 
--- src/generic.rt:142:18
 enum-known-then : tie.Need-enum-known-then
 enum-known-then c = search needs
 
--- src/generic.rt:145:24
 mul-t14 : tie.Need-mul-t14
 mul-t14 c = let k = framed _ _ _ _ _ _ _ (ap (stripThen (c .before .before .before .xdr-frame .result .azimuth) (c .before .before .before .xdr-frame .result .bins)) (sym (c .before .then .given .1)) ∙ c .before .before .before .xdr-frame .ensures ∙ sym (from-passed _ _ _)) in
     record { fits = omega (arith, k .room, k .inside) }
 
--- src/generic.rt:145:17
 add-t15 : tie.Need-add-t15
 add-t15 c = let k = framed _ _ _ _ _ _ _ (ap (stripThen (c .before .before .before .xdr-frame .result .azimuth) (c .before .before .before .xdr-frame .result .bins)) (sym (c .before .then .given .1)) ∙ c .before .before .before .xdr-frame .ensures ∙ sym (from-passed _ _ _)) in
     record { fits = omega (arith, k .room, k .inside) }
 
--- src/generic.rt:147:25
 enum-known-then-2 : tie.Need-enum-known-then-2
 enum-known-then-2 c = search needs
 
--- src/generic.rt:133:1
 returns : tie.Need-returns
 returns c = span-whole _ _ _ _ _ (ap (stripThen (c .before .before .before .xdr-frame .result .azimuth) (c .before .before .before .xdr-frame .result .bins)) (sym (c .before .then .given .1)) ∙ c .before .before .before .xdr-frame .ensures ∙ sym (from-passed _ _ _))
 
--- src/generic.rt:133:1
 returns-2 : tie.Need-returns-2
 returns-2 c = span-halted _ _ _ _ _ (ap (stripThen (c .before .before .before .xdr-frame .result .azimuth) (c .before .before .before .xdr-frame .result .bins)) (sym (c .before .then2 .given .1)) ∙ c .before .before .before .xdr-frame .ensures ∙ sym (from-passed _ _ _))
 

@@ -6,8 +6,8 @@ use Rattle.symbology.specs.Symbology.{Strip, xdrFrame}
 use Rattle.symbology.proofs.Strips.{strip-then}
 use Rattle.xdr.proofs.Lists.{go-on, go-by, check-as, from-give}
 use Rattle.xdr.specs.Xdr.{atLeast0}
-use Rattle.bytes.specs.Refusal.{kind, nat, whole}
-use mathlib.Core.Path.{_≡_, refl, sym, ap, _∙_}
+use Rattle.bytes.specs.Refusal.{kind, nat}
+use mathlib.Core.Path.{_≡_, refl, ap, _∙_}
 use mathlib.Core.List.{[], _∷_}
 use mathlib.Core.Bool.{not, _&&_}
 use lib.Dec.{eqb, ltb}
@@ -21,85 +21,55 @@ use native.Mathlib.Omega.{arith}
 use borrow.Author.Needs.{needs}
 use Rattle.symbology.proofs.generic.xdr_frame.Statement.{statement}
 use Rattle.symbology.proofs.generic.xdr_frame.Tie as tie
-use Rattle.symbology.proofs.generic.xdr_frame.Reads as reads
-use Rattle.symbology.proofs.generic.xdr_frame.Lts as lts
-use Rattle.symbology.proofs.centre.azimuth_centre_28.Reads as azimuth-centre-28-reads
-use Rattle.symbology.proofs.generic.cells_of.Reads as cells-of-reads
-use Rattle.symbology.proofs.generic.expected_of.Reads as expected-of-reads
-use Rattle.symbology.proofs.generic.is_grid_large.Reads as is-grid-large-reads
-use Rattle.xdr.proofs.steps.array_count_after.Reads as array-count-after-reads
-use Rattle.xdr.proofs.steps.float_after.Reads as float-after-reads
-use Rattle.xdr.proofs.steps.int_after.Reads as int-after-reads
-use Rattle.xdr.proofs.steps.refuse_if.Reads as refuse-if-reads
-use Rattle.xdr.proofs.steps.skip_string.Reads as skip-string-reads
-use Rattle.xdr.proofs.steps.skip_word.Reads as skip-word-reads
-use Rattle.xdr.proofs.xdr.at_least_0.Reads as at-least-0-reads
 
--- src/generic.rt:73:9
 float-after-requires : tie.Need-float-after-requires
 float-after-requires c κs = search needs
 
--- src/generic.rt:76:9
 skip-word-requires : tie.Need-skip-word-requires
 skip-word-requires c κs = search needs
 
--- src/generic.rt:77:9
 float-after-requires-2 : tie.Need-float-after-requires-2
 float-after-requires-2 c κs = search needs
 
--- src/generic.rt:80:9
 int-after-requires : tie.Need-int-after-requires
 int-after-requires c κs = search needs
 
--- src/generic.rt:83:9
 skip-string-requires : tie.Need-skip-string-requires
 skip-string-requires c κs = search needs
 
--- src/generic.rt:84:9
 array-count-after-requires : tie.Need-array-count-after-requires
 array-count-after-requires c κs = search needs
 
--- src/generic.rt:87:9
 at-least-0-requires : tie.Need-at-least-0-requires
 at-least-0-requires c κs = search needs
 
--- src/generic.rt:88:9
 expected-of-requires : tie.Need-expected-of-requires
 expected-of-requires c κs = search needs
 
--- src/generic.rt:89:9
 cells-of-requires : tie.Need-cells-of-requires
 cells-of-requires c κs = search needs
 
--- src/generic.rt:94:24
 cast-t30 : tie.Need-cast-t30
 cast-t30 c = search needs
 
--- src/generic.rt:90:9
 refuse-if-requires : tie.Need-refuse-if-requires
 refuse-if-requires c κs = search needs
 
--- src/generic.rt:98:9
 refuse-if-requires-2 : tie.Need-refuse-if-requires-2
 refuse-if-requires-2 c κs = search needs
 
--- src/generic.rt:107:9
 refuse-if-requires-3 : tie.Need-refuse-if-requires-3
 refuse-if-requires-3 c κs = search needs
 
--- src/generic.rt:118:9
 is-grid-large-requires : tie.Need-is-grid-large-requires
 is-grid-large-requires c κs = search needs
 
--- src/generic.rt:116:9
 refuse-if-requires-4 : tie.Need-refuse-if-requires-4
 refuse-if-requires-4 c κs = search needs
 
--- src/generic.rt:127:18
 azimuth-centre-28-requires : tie.Need-azimuth-centre-28-requires
 azimuth-centre-28-requires c κs = search needs
 
--- src/generic.rt:62:1
 returns : tie.Need-returns
 unfolding xdrFrame
 returns c = let v = c .before .before .before .before .before .before .before .before .before .before .before .before .int-after .result .value in

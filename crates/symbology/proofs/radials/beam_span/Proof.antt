@@ -2,86 +2,59 @@ use Rattle.symbology.proofs.Beams.{beam-cut, beam-wide, beam-wrong, bea
 use borrow.Author.Needs.{needs}
 use Rattle.symbology.proofs.radials.beam_span.Statement.{statement}
 use Rattle.symbology.proofs.radials.beam_span.Tie as tie
-use Rattle.symbology.proofs.radials.beam_span.Reads as reads
-use Rattle.symbology.proofs.radials.beam_span.Lts as lts
-use Rattle.bytes.proofs.bytes.remaining.Reads as remaining-reads
-use Rattle.bytes.proofs.bytes.u16_at.Reads as u16-at-reads
-use Rattle.symbology.proofs.centre.azimuth_centre_deg.Reads as azimuth-centre-deg-reads
-use Rattle.symbology.proofs.centre.width_deg.Reads as width-deg-reads
-use Rattle.symbology.proofs.radials.covered_by.Reads as covered-by-reads
-use Rattle.symbology.proofs.radials.is_count_wrong.Reads as is-count-wrong-reads
-use Rattle.symbology.proofs.radials.is_width_wrong.Reads as is-width-wrong-reads
 
--- src/radials.rt:76:9
 remaining-requires : tie.Need-remaining-requires
 remaining-requires c κs = search needs
 
--- src/radials.rt:78:9
 returns : tie.Need-returns
 returns c = beam-cut _ _ _ _ _ _ (c .before .remaining .ensures) (c .if1 .taken)
 
--- src/radials.rt:83:9
 u16-at-requires : tie.Need-u16-at-requires
 u16-at-requires c κs = search needs
 
--- src/radials.rt:84:44
 add-u16-at : tie.Need-add-u16-at
 add-u16-at c = search needs
 
--- src/radials.rt:84:9
 u16-at-requires-2 : tie.Need-u16-at-requires-2
 u16-at-requires-2 c κs = search needs
 
--- src/radials.rt:85:44
 add-u16-at-2 : tie.Need-add-u16-at-2
 add-u16-at-2 c = search needs
 
--- src/radials.rt:85:9
 u16-at-requires-3 : tie.Need-u16-at-requires-3
 u16-at-requires-3 c κs = search needs
 
--- src/radials.rt:86:8
 is-width-wrong-requires : tie.Need-is-width-wrong-requires
 is-width-wrong-requires c κs = search needs
 
--- src/radials.rt:89:24
 width-deg-requires : tie.Need-width-deg-requires
 width-deg-requires c κs = search needs
 
--- src/radials.rt:87:9
 returns-2 : tie.Need-returns-2
 returns-2 c = beam-wide _ _ _ _ _ _ (c .before .before .before .before .before .before .before .remaining .ensures) (c .before .before .before .before .before .before .if1 .left) (c .before .before .before .before .before .u16-at .ensures) (c .before .before .before .u16-at3 .ensures) (c .before .before .is-width-wrong .ensures) (c .before .if2 .taken) (c .width-deg .ensures)
 
--- src/radials.rt:92:8
 is-count-wrong-requires : tie.Need-is-count-wrong-requires
 is-count-wrong-requires c κs = search needs
 
--- src/radials.rt:95:22
 cast-t19 : tie.Need-cast-t19
 cast-t19 c = search needs
 
--- src/radials.rt:93:9
 returns-3 : tie.Need-returns-3
 returns-3 c = beam-wrong _ _ _ _ _ _ (c .before .before .before .before .before .before .before .before .remaining .ensures) (c .before .before .before .before .before .before .before .if1 .left) (c .before .before .before .before .before .before .u16-at .ensures) (c .before .before .before .before .u16-at3 .ensures) (c .before .before .before .is-width-wrong .ensures) (c .before .before .if2 .left)
     (c .before .is-count-wrong .ensures) (c .if3 .taken)
 
--- src/radials.rt:99:16
 add-from : tie.Need-add-from
 add-from c = search needs
 
--- src/radials.rt:101:18
 azimuth-centre-deg-requires : tie.Need-azimuth-centre-deg-requires
 azimuth-centre-deg-requires c κs = search needs
 
--- src/radials.rt:103:20
 covered-by-requires : tie.Need-covered-by-requires
 covered-by-requires c κs = search needs
 
--- src/radials.rt:103:13
 add-t22 : tie.Need-add-t22
 add-t22 c = search needs
 
--- src/radials.rt:66:1
 returns-4 : tie.Need-returns-4
 returns-4 c = beam-whole _ _ _ _ _ _ (c .before .before .before .before .before .before .before .before .before .before .remaining .ensures) (c .before .before .before .before .before .before .before .before .before .if1 .left) (c .before .before .before .before .before .before .before .before .u16-at .ensures) (c .before .before .before .before .before .before .u16-at3 .ensures) (c .before .before .before .before .before .is-width-wrong .ensures) (c .before .before .before .before .if2 .left)
     (c .before .before .before .is-count-wrong .ensures) (c .before .before .if3 .left) (c .before .before .before .before .before .before .before .u16-at2 .ensures) (c .before .azimuth-centre-deg .ensures) (c .covered-by .ensures .0)

@@ -4,40 +4,30 @@ use native.Mathlib.Omega.{arith}
 use borrow.Author.Needs.{needs}
 use Rattle.symbology.proofs.radials.covered_by.Statement.{statement}
 use Rattle.symbology.proofs.radials.covered_by.Tie as tie
-use Rattle.symbology.proofs.radials.covered_by.Reads as reads
-use Rattle.symbology.proofs.radials.covered_by.Lts as lts
 
--- src/radials.rt:33:29
 enum-told : tie.Need-enum-told
 enum-told c = search needs
 
--- src/radials.rt:34:31
 enum-told-2 : tie.Need-enum-told-2
 enum-told-2 c = search needs
 
--- src/radials.rt:34:31
 mul-result : tie.Need-mul-result
 mul-result c = search needs
 
--- src/radials.rt:35:29
 enum-told-3 : tie.Need-enum-told-3
 enum-told-3 c = search needs
 
--- src/radials.rt:35:29
 mul-result-2 : tie.Need-mul-result-2
 mul-result-2 c = search needs
 
--- src/radials.rt:29:1
 returns : tie.Need-returns
 unfolding covered
 returns c = rw (c .enum-told .given .1) (refl, omega arith)
 
--- src/radials.rt:29:1
 returns-2 : tie.Need-returns-2
 unfolding covered
 returns-2 c = rw (c .enum-told2 .given .1) (refl, omega arith)
 
--- src/radials.rt:29:1
 returns-3 : tie.Need-returns-3
 unfolding covered
 returns-3 c = rw (c .enum-told3 .given .1) (refl, omega arith)

@@ -1,39 +1,28 @@
 use borrow.Author.Needs.{needs}
 use Rattle.symbology.proofs.radials.first_bin.Statement.{statement}
 use Rattle.symbology.proofs.radials.first_bin.Tie as tie
-use Rattle.symbology.proofs.radials.first_bin.Reads as reads
-use Rattle.symbology.proofs.radials.first_bin.Lts as lts
-use Rattle.bytes.proofs.bytes.u16_at.Reads as u16-at-reads
 
--- src/radials.rt:112:29
 enum-told : tie.Need-enum-told
 enum-told c = search needs
 
--- src/radials.rt:112:29
 u16-at-requires : tie.Need-u16-at-requires
 u16-at-requires c κs = search needs
 
--- src/radials.rt:112:29
 cast-result : tie.Need-cast-result
 cast-result c = search needs
 
--- src/radials.rt:113:31
 enum-told-2 : tie.Need-enum-told-2
 enum-told-2 c = search needs
 
--- src/radials.rt:114:29
 enum-told-3 : tie.Need-enum-told-3
 enum-told-3 c = search needs
 
--- src/radials.rt:108:1
 returns : tie.Need-returns
 returns c = rw (c .before .enum-told .given .1) (c .u16-at .ensures)
 
--- src/radials.rt:108:1
 returns-2 : tie.Need-returns-2
 returns-2 c = search needs
 
--- src/radials.rt:108:1
 returns-3 : tie.Need-returns-3
 returns-3 c = search needs
 

@@ -3,41 +3,31 @@ use borrow.Author.Tests.{lt-ltb, le-ltb}
 use borrow.Author.Needs.{needs}
 use Rattle.symbology.proofs.radials.is_count_wrong.Statement.{statement}
 use Rattle.symbology.proofs.radials.is_count_wrong.Tie as tie
-use Rattle.symbology.proofs.radials.is_count_wrong.Reads as reads
-use Rattle.symbology.proofs.radials.is_count_wrong.Lts as lts
 
--- src/radials.rt:45:17
 enum-told : tie.Need-enum-told
 enum-told c = search needs
 
--- src/radials.rt:46:17
 returns : tie.Need-returns
 unfolding countWrong
 returns c = rw (c .before .enum-told .given .1) (simp (lt-ltb _ _ (c .if1 .taken)))
 
--- src/radials.rt:50:38
 enum-told-2 : tie.Need-enum-told-2
 enum-told-2 c = search needs
 
--- src/radials.rt:50:38
 mul-result : tie.Need-mul-result
 mul-result c = search needs
 
--- src/radials.rt:51:29
 enum-told-3 : tie.Need-enum-told-3
 enum-told-3 c = search needs
 
--- src/radials.rt:40:1
 returns-2 : tie.Need-returns-2
 unfolding countWrong
 returns-2 c = rw (c .before .enum-told .given .1) (simp (le-ltb _ _ (c .if1 .left)))
 
--- src/radials.rt:40:1
 returns-3 : tie.Need-returns-3
 unfolding countWrong
 returns-3 c = rw (c .enum-told2 .given .1)
 
--- src/radials.rt:40:1
 returns-4 : tie.Need-returns-4
 unfolding countWrong
 returns-4 c = rw (c .enum-told3 .given .1)

@@ -2,15 +2,11 @@ use Rattle.symbology.specs.Symbology.{isEmpty}
 use borrow.Author.Tests.{eq-eqb, ne-eqb}
 use Rattle.symbology.proofs.radials.is_empty.Statement.{statement}
 use Rattle.symbology.proofs.radials.is_empty.Tie as tie
-use Rattle.symbology.proofs.radials.is_empty.Reads as reads
-use Rattle.symbology.proofs.radials.is_empty.Lts as lts
 
--- src/radials.rt:138:9
 returns : tie.Need-returns
 unfolding isEmpty
 returns c = simp (eq-eqb _ _ (c .if1 .taken))
 
--- src/radials.rt:134:1
 returns-2 : tie.Need-returns-2
 unfolding isEmpty
 returns-2 c = simp (ne-eqb _ _ (c .if1 .left))

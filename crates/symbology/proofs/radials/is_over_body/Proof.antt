@@ -2,41 +2,30 @@ use Rattle.symbology.specs.Symbology.{overBody}
 use borrow.Author.Needs.{needs}
 use Rattle.symbology.proofs.radials.is_over_body.Statement.{statement}
 use Rattle.symbology.proofs.radials.is_over_body.Tie as tie
-use Rattle.symbology.proofs.radials.is_over_body.Reads as reads
-use Rattle.symbology.proofs.radials.is_over_body.Lts as lts
-use Rattle.symbology.proofs.radials.product.Reads as product-reads
 
--- src/radials.rt:149:55
 enum-told : tie.Need-enum-told
 enum-told c = search needs
 
--- src/radials.rt:149:55
 add-product : tie.Need-add-product
 add-product c = search needs
 
--- src/radials.rt:149:36
 product-requires : tie.Need-product-requires
 product-requires c κs = search needs
 
--- src/radials.rt:150:31
 enum-told-2 : tie.Need-enum-told-2
 enum-told-2 c = search needs
 
--- src/radials.rt:151:29
 enum-told-3 : tie.Need-enum-told-3
 enum-told-3 c = search needs
 
--- src/radials.rt:144:1
 returns : tie.Need-returns
 unfolding overBody
 returns c = rw (c .before .enum-told .given .1, c .product .ensures)
 
--- src/radials.rt:144:1
 returns-2 : tie.Need-returns-2
 unfolding overBody
 returns-2 c = rw (c .enum-told2 .given .1)
 
--- src/radials.rt:144:1
 returns-3 : tie.Need-returns-3
 unfolding overBody
 returns-3 c = rw (c .enum-told3 .given .1)

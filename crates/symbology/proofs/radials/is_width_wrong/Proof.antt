@@ -1,14 +1,10 @@
 use borrow.Author.Tests.{eq-eqb, ne-eqb}
 use Rattle.symbology.proofs.radials.is_width_wrong.Statement.{statement}
 use Rattle.symbology.proofs.radials.is_width_wrong.Tie as tie
-use Rattle.symbology.proofs.radials.is_width_wrong.Reads as reads
-use Rattle.symbology.proofs.radials.is_width_wrong.Lts as lts
 
--- src/radials.rt:60:9
 returns : tie.Need-returns
 returns c = simp (eq-eqb _ _ (c .if1 .taken))
 
--- src/radials.rt:56:1
 returns-2 : tie.Need-returns-2
 returns-2 c = simp (ne-eqb _ _ (c .if1 .left))
 

@@ -4,17 +4,13 @@ use native.Mathlib.Omega.{arith}
 use borrow.Author.Needs.{needs}
 use Rattle.symbology.proofs.radials.product.Statement.{statement}
 use Rattle.symbology.proofs.radials.product.Tie as tie
-use Rattle.symbology.proofs.radials.product.Reads as reads
-use Rattle.symbology.proofs.radials.product.Lts as lts
 
--- src/radials.rt:130:5
 mul-result : tie.Need-mul-result
 mul-result c = let h : c .args .a ≤ 131071 = omega arith in
     let k : c .args .b ≤ 131071 = omega arith in
     let m : c .args .a * c .args .b ≤ 131071 * 131071 = mul-le-mul h k in
     record { fits = omega arith }
 
--- src/radials.rt:126:1
 returns : tie.Need-returns
 returns c = search needs
 

@@ -3,75 +3,52 @@ use Rattle.symbology.proofs.Beams.{header-cut, header-empty, header-lar
 use borrow.Author.Needs.{needs}
 use Rattle.symbology.proofs.radials.read_packet_header.Statement.{statement}
 use Rattle.symbology.proofs.radials.read_packet_header.Tie as tie
-use Rattle.symbology.proofs.radials.read_packet_header.Reads as reads
-use Rattle.symbology.proofs.radials.read_packet_header.Lts as lts
-use Rattle.bytes.proofs.bytes.u16_at.Reads as u16-at-reads
-use Rattle.symbology.proofs.radials.count_at.Reads as count-at-reads
-use Rattle.symbology.proofs.radials.first_bin.Reads as first-bin-reads
-use Rattle.symbology.proofs.radials.is_empty.Reads as is-empty-reads
-use Rattle.symbology.proofs.radials.is_over_body.Reads as is-over-body-reads
-use Rattle.symbology.proofs.radials.product.Reads as product-reads
 
--- src/radials.rt:162:9
 returns : tie.Need-returns
 returns c = header-cut _ _ (c .before .before .pre .1) (c .before .before .pre .0) (c .if1 .taken)
 
--- src/radials.rt:164:9
 first-bin-requires : tie.Need-first-bin-requires
 first-bin-requires c κs = search needs
 
--- src/radials.rt:165:9
 count-at-requires : tie.Need-count-at-requires
 count-at-requires c κs = search needs
 
--- src/radials.rt:166:9
 u16-at-requires : tie.Need-u16-at-requires
 u16-at-requires c κs = search needs
 
--- src/radials.rt:167:9
 count-at-requires-2 : tie.Need-count-at-requires-2
 count-at-requires-2 c κs = search needs
 
--- src/radials.rt:168:8
 is-empty-requires : tie.Need-is-empty-requires
 is-empty-requires c κs = search needs
 
--- src/radials.rt:169:9
 returns-2 : tie.Need-returns-2
 returns-2 c = header-empty _ _ (c .before .before .before .before .before .before .before .before .pre .1) (c .before .before .before .before .before .before .if1 .left) (c .before .before .count-at2 .ensures .0) (c .before .before .before .before .count-at .ensures .0) (c .before .is-empty .ensures) (c .if2 .taken)
 
--- src/radials.rt:171:9
 product-requires : tie.Need-product-requires
 product-requires c κs = search needs
 
--- src/radials.rt:173:9
 returns-3 : tie.Need-returns-3
 returns-3 c = header-large _ _ (c .before .before .before .before .before .before .before .before .before .before .pre .1) (c .before .before .before .before .before .before .before .before .if1 .left) (c .before .before .before .before .count-at2 .ensures .0) (c .before .before .before .before .before .before .count-at .ensures .0) (c .before .before .before .is-empty .ensures) (c .before .before .if2 .left)
     (c .before .product .ensures) (c .if3 .taken)
 
--- src/radials.rt:181:9
 returns-4 : tie.Need-returns-4
 returns-4 c = header-first _ _ (c .before .before .before .before .before .before .before .before .before .before .before .pre .1) (c .before .before .before .before .before .before .before .before .before .if1 .left) (c .before .before .before .before .before .count-at2 .ensures .0) (c .before .before .before .before .before .before .before .count-at .ensures .0) (c .before .before .before .before .is-empty .ensures) (c .before .before .before .if2 .left)
     (c .before .before .product .ensures) (c .before .if3 .left) (c .before .before .before .before .before .before .before .before .first-bin .ensures) (c .if4 .taken)
 
--- src/radials.rt:184:8
 is-over-body-requires : tie.Need-is-over-body-requires
 is-over-body-requires c κs = search needs
 
--- src/radials.rt:188:40
 add-product : tie.Need-add-product
 add-product c = search needs
 
--- src/radials.rt:188:21
 product-requires-2 : tie.Need-product-requires-2
 product-requires-2 c κs = search needs
 
--- src/radials.rt:185:9
 returns-5 : tie.Need-returns-5
 returns-5 c = header-over _ _ (c .before .before .before .before .before .before .before .before .before .before .before .before .before .before .pre .1) (c .before .before .before .before .before .before .before .before .before .before .before .before .if1 .left) (c .before .before .before .before .before .before .before .before .count-at2 .ensures .0) (c .before .before .before .before .before .before .before .before .before .before .count-at .ensures .0) (c .before .before .before .before .before .before .before .is-empty .ensures) (c .before .before .before .before .before .before .if2 .left)
     (c .before .before .before .before .before .product .ensures) (c .before .before .before .before .if3 .left) (c .before .before .before .before .before .before .before .before .before .before .before .first-bin .ensures) (c .before .before .before .if4 .left) refl (c .before .before .is-over-body .ensures) (c .before .if5 .taken) (c .product2 .ensures)
 
--- src/radials.rt:156:1
 returns-6 : tie.Need-returns-6
 returns-6 c = header-whole _ _ (c .before .before .before .before .before .before .before .before .before .before .before .before .before .pre .1) (c .before .before .before .before .before .before .before .before .before .before .before .if1 .left) (c .before .before .before .before .before .before .before .count-at2 .ensures .0) (c .before .before .before .before .before .before .before .before .before .count-at .ensures .0) (c .before .before .before .before .before .before .is-empty .ensures) (c .before .before .before .before .before .if2 .left)
     (c .before .before .before .before .product .ensures) (c .before .before .before .if3 .left) (c .before .before .before .before .before .before .before .before .before .before .first-bin .ensures) (c .before .before .if4 .left) refl (c .before .is-over-body .ensures) (c .if5 .left) (c .before .before .before .before .before .before .before .before .u16-at .ensures)

@@ -1,63 +1,46 @@
 use Rattle.symbology.proofs.Walking.{found, radial-refused, radial-row}
 use Rattle.symbology.specs.Walk.{placeOf}
 use Rattle.symbology.specs.Answers.{checkOf}
-use Rattle.bytes.specs.Result.{accepted, then}
 use mathlib.Core.Path.{sym, ap, _∙_}
 use native.Mathlib.Omega.{arith}
 use borrow.Author.Needs.{needs}
 use Rattle.symbology.proofs.walks.check_radial.Statement.{statement}
 use Rattle.symbology.proofs.walks.check_radial.Tie as tie
-use Rattle.symbology.proofs.walks.check_radial.Reads as reads
-use Rattle.symbology.proofs.walks.check_radial.Lts as lts
-use Rattle.symbology.proofs.rows.check_row.Reads as check-row-reads
-use Rattle.symbology.proofs.walks.frame_span.Reads as frame-span-reads
 
--- src/walks.rt:61:11
 frame-span-requires : tie.Need-frame-span-requires
 frame-span-requires c κs = search needs
 
--- src/walks.rt:62:27
 enum-known-error : tie.Need-enum-known-error
 enum-known-error c = search needs
 
--- src/walks.rt:65:13
 enum-known-from : tie.Need-enum-known-from
 enum-known-from c = search needs
 
--- src/walks.rt:67:62
 sub-check-row : tie.Need-sub-check-row
 sub-check-row c = let f = found _ _ _ _ _ _ (ap placeOf (sym (c .before .from .given .1)) ∙ c .before .before .before .frame-span .ensures) in omega (arith, f .to-is)
 
--- src/walks.rt:67:62
 part-check-row-start : tie.Need-part-check-row-start
 part-check-row-start c = let f = found _ _ _ _ _ _ (ap placeOf (sym (c .before .from .given .1)) ∙ c .before .before .before .frame-span .ensures) in omega (arith, f .to-is)
 
--- src/walks.rt:67:62
 part-check-row-end : tie.Need-part-check-row-end
 part-check-row-end c = found _ _ _ _ _ _ (ap placeOf (sym (c .before .from .given .1)) ∙ c .before .before .before .frame-span .ensures) .inside
 
--- src/walks.rt:67:20
 check-row-requires : tie.Need-check-row-requires
 check-row-requires c κs = search needs
 
--- src/walks.rt:68:30
 enum-told : tie.Need-enum-told
 enum-told c = search needs
 
--- src/walks.rt:69:28
 enum-known-error-2 : tie.Need-enum-known-error-2
 enum-known-error-2 c = search needs
 
--- src/walks.rt:50:1
 returns : tie.Need-returns
 returns c = radial-refused _ _ _ _ _ _ (ap placeOf (sym (c .before .error .given .1)) ∙ c .before .before .before .frame-span .ensures)
 
--- src/walks.rt:50:1
 returns-2 : tie.Need-returns-2
 returns-2 c = let f = found _ _ _ _ _ _ (ap placeOf (sym (c .before .before .before .before .before .from .given .1)) ∙ c .before .before .before .before .before .before .before .frame-span .ensures) in
     radial-row _ _ _ _ _ _ f (ap checkOf (sym (c .enum-told .given .1)) ∙ c .before .before .check-row .ensures)
 
--- src/walks.rt:50:1
 returns-3 : tie.Need-returns-3
 returns-3 c = let f = found _ _ _ _ _ _ (ap placeOf (sym (c .before .before .before .before .before .before .from .given .1)) ∙ c .before .before .before .before .before .before .before .before .frame-span .ensures) in
     radial-row _ _ _ _ _ _ f (ap checkOf (sym (c .before .error2 .given .1)) ∙ c .before .before .before .check-row .ensures)

@@ -5,9 +5,6 @@ use Prim.Native.Nat.{_-_}
 use borrow.Author.Needs.{needs}
 use Rattle.symbology.proofs.walks.check_radials.Statement.{statement}
 use Rattle.symbology.proofs.walks.check_radials.Tie as tie
-use Rattle.symbology.proofs.walks.check_radials.Reads as reads
-use Rattle.symbology.proofs.walks.check_radials.Lts as lts
-use Rattle.symbology.proofs.walks.check_radial.Reads as check-radial-reads
 
 abbrev Inv-loop : tie.InvT-loop
 Inv-loop packet s start n-radials n-bins at₀ r₀ at r = Checked packet n-radials n-bins s start r at
@@ -15,39 +12,30 @@ Inv-loop packet s start n-radials n-bins at₀ r₀ at r = Checked packet n-radi
 abbrev μ-loop : tie.MeasureT-loop
 μ-loop packet s start n-radials n-bins at₀ r₀ at r = n-radials - r
 
--- src/walks.rt:87:5
 loop-holds : tie.Need-loop-holds Inv-loop μ-loop
 loop-holds c = checked-first _ _ _ _ _
 
--- src/walks.rt:88:13
 check-radial-requires : tie.Need-check-radial-requires Inv-loop μ-loop
 check-radial-requires c κs = search needs
 
--- src/walks.rt:90:22
 enum-known-next : tie.Need-enum-known-next Inv-loop μ-loop
 enum-known-next c = search needs
 
--- src/walks.rt:93:27
 enum-known-next-2 : tie.Need-enum-known-next-2 Inv-loop μ-loop
 enum-known-next-2 c = search needs
 
--- src/walks.rt:94:17
 returns : tie.Need-returns Inv-loop μ-loop
 returns c = checked-stop _ _ _ _ (c .before .before .before .before .before .loop .inv) (c .before .before .before .before .loop-test .taken) (ap nextOf (sym (c .before .next2 .given .1)) ∙ c .before .before .before .check-radial .ensures)
 
--- src/walks.rt:97:9
 add-r : tie.Need-add-r Inv-loop μ-loop
 add-r c = search needs
 
--- src/walks.rt:87:5
 loop-less : tie.Need-loop-less Inv-loop μ-loop
 loop-less c = search needs
 
--- src/walks.rt:87:5
 loop-again : tie.Need-loop-again Inv-loop μ-loop
 loop-again c = checked-next _ _ _ _ (c .before .before .before .before .before .loop .inv) (c .before .before .before .before .loop-test .taken) (ap nextOf (sym (c .before .next .given .1)) ∙ c .before .before .before .check-radial .ensures)
 
--- src/walks.rt:75:1
 returns-2 : tie.Need-returns-2 Inv-loop μ-loop
 returns-2 c = checked-end _ _ _ _ (c .before .loop .inv) (c .loop-test .left)
 

@@ -6,50 +6,36 @@ use native.Mathlib.Omega.{arith}
 use borrow.Author.Needs.{needs}
 use Rattle.symbology.proofs.walks.write_radial.Statement.{statement}
 use Rattle.symbology.proofs.walks.write_radial.Tie as tie
-use Rattle.symbology.proofs.walks.write_radial.Reads as reads
-use Rattle.symbology.proofs.walks.write_radial.Lts as lts
-use Rattle.symbology.proofs.rows.write_row.Reads as write-row-reads
-use Rattle.symbology.proofs.walks.frame_span.Reads as frame-span-reads
 
--- src/walks.rt:122:11
 frame-span-requires : tie.Need-frame-span-requires
 frame-span-requires c κs = search needs
 
--- src/walks.rt:123:27
 enum-known-azimuth : tie.Need-enum-known-azimuth
 enum-known-azimuth c = search needs
 
--- src/walks.rt:124:44
 sub-write-row : tie.Need-sub-write-row
 sub-write-row c = let f = found _ _ _ _ _ _ (ap placeOf (sym (c .before .azimuth .given .1)) ∙ c .before .before .before .frame-span .ensures) in omega (arith, f .to-is)
 
--- src/walks.rt:124:44
 part-write-row-start : tie.Need-part-write-row-start
 part-write-row-start c = let f = found _ _ _ _ _ _ (ap placeOf (sym (c .before .azimuth .given .1)) ∙ c .before .before .before .frame-span .ensures) in omega (arith, f .to-is)
 
--- src/walks.rt:124:44
 part-write-row-end : tie.Need-part-write-row-end
 part-write-row-end c = found _ _ _ _ _ _ (ap placeOf (sym (c .before .azimuth .given .1)) ∙ c .before .before .before .frame-span .ensures) .inside
 
--- src/walks.rt:124:13
 write-row-requires : tie.Need-write-row-requires
 write-row-requires c κs = let f = found _ _ _ _ _ _ (ap placeOf (sym (c .before .before .before .azimuth .given .1)) ∙ c .before .before .before .before .before .frame-span .ensures) in
     row-ready _ _ _ _ _ _ f (c .before .before .before .before .before .before .before .before .pre .1)
 
--- src/walks.rt:127:27
 enum-known-error : tie.Need-enum-known-error
 enum-known-error c = search needs
 
--- src/walks.rt:109:1
 same-length : tie.Need-same-length
 same-length c = search needs
 
--- src/walks.rt:109:1
 returns : tie.Need-returns
 returns c = let f = found _ _ _ _ _ _ (ap placeOf (sym (c .before .before .before .before .before .before .azimuth .given .1)) ∙ c .before .before .before .before .before .before .before .before .frame-span .ensures) in
     (centre-written _ _ _ _ _ _ f (c .before .before .before .before .before .before .before .before .before .before .before .pre .1), row-written _ _ _ _ _ _ f (c .before .before .before .before .before .before .before .before .before .before .before .pre .1) (c .before .before .write-row .ensures))
 
--- src/walks.rt:109:1
 returns-2 : tie.Need-returns-2
 returns-2 c = frame-there _ _ _ _ _ _ (c .before .before .before .before .before .before .pre .1) (ap placeOf (sym (c .before .error .given .1)) ∙ c .before .before .before .frame-span .ensures)
 

@@ -1,15 +1,11 @@
 use Rattle.symbology.proofs.Writing.{Written, written-first, written-radial, written-room, written-part, written-next, written-centres, written-rows}
 use Rattle.symbology.specs.Walk.{anyWalk, Accepted}
 use Rattle.bytes.specs.Reading.{run}
-use mathlib.Core.Path.{sym, ap, _∙_}
 use Prim.Native.Nat.{_-_}
 use native.Mathlib.Omega.{arith}
 use borrow.Author.Needs.{needs}
 use Rattle.symbology.proofs.walks.write_radials.Statement.{statement}
 use Rattle.symbology.proofs.walks.write_radials.Tie as tie
-use Rattle.symbology.proofs.walks.write_radials.Reads as reads
-use Rattle.symbology.proofs.walks.write_radials.Lts as lts
-use Rattle.symbology.proofs.walks.write_radial.Reads as write-radial-reads
 
 abbrev Inv-loop : tie.InvT-loop
 Inv-loop packet s start n-radials n-bins azimuths₀ codes₀ at₀ cell₀ r₀ azimuths codes at cell r = (acc : Accepted (run (anyWalk packet n-radials n-bins n-radials 0) s start))
@@ -18,63 +14,48 @@ Inv-loop packet s start n-radials n-bins azimuths₀ codes₀ at₀ cell₀ r₀
 abbrev μ-loop : tie.MeasureT-loop
 μ-loop packet s start n-radials n-bins azimuths₀ codes₀ at₀ cell₀ r₀ azimuths codes at cell r = n-radials - r
 
--- src/walks.rt:152:5
 loop-holds : tie.Need-loop-holds Inv-loop μ-loop
 loop-holds c = (c .before .before .before .pre .0 .1, written-first _ _ _ _ _ _ _ (c .before .before .before .pre .0 .1) (c .before .before .before .pre .1 .0) (c .before .before .before .pre .1 .1))
 
--- src/walks.rt:153:19
 add-end : tie.Need-add-end Inv-loop μ-loop
 add-end c = let h = written-room _ _ _ _ (c .before .loop .inv .1) (c .loop-test .taken) in record { fits = omega (arith, h .1) }
 
--- src/walks.rt:154:59
 mul-write-radial : tie.Need-mul-write-radial Inv-loop μ-loop
 mul-write-radial c = search needs
 
--- src/walks.rt:154:59
 sub-write-radial : tie.Need-sub-write-radial Inv-loop μ-loop
 sub-write-radial c = search needs
 
--- src/walks.rt:154:59
 part-write-radial-start : tie.Need-part-write-radial-start Inv-loop μ-loop
 part-write-radial-start c = search needs
 
--- src/walks.rt:154:59
 part-write-radial-end : tie.Need-part-write-radial-end Inv-loop μ-loop
 part-write-radial-end c = written-room _ _ _ _ (c .before .loop .inv .1) (c .loop-test .taken) .1
 
--- src/walks.rt:154:13
 write-radial-requires : tie.Need-write-radial-requires Inv-loop μ-loop
 write-radial-requires c κs = rw (written-part _ _ _ _ (c .before .before .loop .inv .1) (c .before .loop-test .taken)) (search needs, written-radial _ _ _ _ (c .before .before .loop .inv .1) (c .before .loop-test .taken))
 
--- src/walks.rt:155:9
 mul-azimuths : tie.Need-mul-azimuths Inv-loop μ-loop
 mul-azimuths c = search needs
 
--- src/walks.rt:155:9
 slice-write-azimuths : tie.Need-slice-write-azimuths Inv-loop μ-loop
 slice-write-azimuths c = written-room _ _ _ _ (c .before .before .before .before .before .loop .inv .1) (c .before .before .before .before .loop-test .taken) .0
 
--- src/walks.rt:158:9
-add-r : tie.Need-add-r Inv-loop μ-loop
-add-r c = search needs
+add-radial : tie.Need-add-radial Inv-loop μ-loop
+add-radial c = search needs
 
--- src/walks.rt:152:5
 loop-less : tie.Need-loop-less Inv-loop μ-loop
 loop-less c = search needs
 
--- src/walks.rt:152:5
 loop-again : tie.Need-loop-again Inv-loop μ-loop
 loop-again c = (c .before .before .before .before .before .loop .inv .0, written-next _ _ _ _ (c .before .before .before .before .before .loop .inv .1) (c .before .before .before .before .loop-test .taken) (rw (written-part _ _ _ _ (c .before .before .before .before .before .loop .inv .1) (c .before .before .before .before .loop-test .taken)) at (c .before .before .write-radial .ensures .0)) (rw (written-part _ _ _ _ (c .before .before .before .before .before .loop .inv .1) (c .before .before .before .before .loop-test .taken)) at (c .before .before .write-radial .ensures .1)))
 
--- src/walks.rt:135:1
 same-length : tie.Need-same-length Inv-loop μ-loop
 same-length c = search needs
 
--- src/walks.rt:135:1
 same-length-2 : tie.Need-same-length-2 Inv-loop μ-loop
 same-length-2 c = search needs
 
--- src/walks.rt:135:1
 returns : tie.Need-returns Inv-loop μ-loop
 returns c = rw (c .before .loop .inv .0 .1) (written-centres _ _ _ _ (c .before .loop .inv .1) (c .loop-test .left), written-rows _ _ _ _ (c .before .loop .inv .1) (c .loop-test .left))
 
@@ -93,7 +74,7 @@ write-radials-spec =
     write-radial-requires
     mul-azimuths
     slice-write-azimuths
-    add-r
+    add-radial
     loop-less
     loop-again
     same-length

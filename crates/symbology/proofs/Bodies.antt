@@ -1,0 +1,251 @@
+-- The body: its header and its packets, a law for each answer of the code. Assumes nothing.
+use Prim.Native.Nat.{ℕ, zero, suc, _+_, _-_, _*_, _≤_, _<_}
+use native.Mathlib.Omega.{arith}
+use mathlib.Core.List.{List, [], _∷_}
+use mathlib.Core.Bool.{Bool, true, false, cond, not, _&&_, _||_}
+use mathlib.Core.Path.{_≡_, refl, sym, ap, ap₂, _∙_}
+use lib.ListN.{length, getD, take, drop}
+use lib.Seq.{slice, take-length}
+use lib.Dec.{ltb, eqb}
+use lib.IntN.{ℤ, pos}
+use lib.Signed.{ltZ}
+use mir.Syntax.{w8}
+use mir.Val.{Fits}
+use borrow.Author.Tests.{lt-ltb, le-ltb, ltb-true, ltb-false, ne-eqb}
+use Rattle.bytes.specs.Bytes.{u16At, u32At, i32At, signed}
+use Rattle.bytes.specs.Refusal.{Refusal, kind, nat, whole, item}
+use Rattle.bytes.specs.Result.{Result, accepted, refused}
+use Rattle.bytes.specs.Reading.{Read, give, _>>=_, _>>_, remaining, u16, u32, unread, refuse-if, run, Given, Ended, passed, halted, outcome, walk}
+use Rattle.bytes.specs.declared.error.XdrItem.the-variants as Item
+use Rattle.bytes.proofs.Readings.{part-slice, past-test}
+use Rattle.bytes.proofs.Runs.{then-then, Plain, plain-then, plain-by, plain-give, plain-check, plain-remaining, plain-u16, plain-unread, run-passed, run-halted, shifted, run-within}
+use Rattle.xdr.specs.Xdr.{atLeast0}
+use Rattle.symbology.specs.Symbology.{Sweep, Header, frame, radial, radialWalk, firstBin, isEmpty, overBody, packetHeader, radialPacket, payload, bodyShort, genericPacket, packetOf, symbology}
+use Rattle.symbology.specs.Walk.{beamSpan, anyFrame, anyRadial, anyWalk, firstOf, sweepFrom, Planned, Plotted, Plots}
+use Rattle.symbology.proofs.Beams.{header-is}
+use Rattle.symbology.proofs.Integers.{signed-low, signed-high, u32-small}
+use Rattle.symbology.proofs.Strips28.{sweep-run}
+use Rattle.symbology.specs.declared.figures.Figures.{Figures}
+use Rattle.symbology.specs.declared.figures.Packet.{Packet}
+use Rattle.symbology.specs.declared.figures.Packet.the-variants.{Packet16, PacketAf1f, Packet28}
+use Rattle.symbology.specs.declared.figures.Geometry.the-variants.{RangeScale}
+use Rattle.symbology.specs.declared.spans.PlanRead.the-variants as PlanRead
+use Rattle.symbology.specs.declared.spans.BodyPlan.{BodyPlan}
+
+-- ---- plans
+
+pub plots-as : (r : BodyPlan) (s : List ℕ) {R Q : Result (Given Sweep)} → R ≡ Q → Plots r s Q → Plots r s R
+plots-as r s e h = rw e h
+
+-- a plan of a part of the body
+pub plotted : {f : Figures} {at next from to : ℕ} {body : List ℕ} {R R' : Result (Given Sweep)} (p : Planned f at next (slice from to body) R) (end : ℕ) → from ≤ to → to ≤ length body
+    → R' ≡ accepted (record { value = record { figures = f; azimuths = p .radials .value }; next = end; rows = p .radials .rows }) → Plotted f from to at body R'
+plotted p end o i w =
+    record { radials = p .radials; end = end; small = p .small; cells = p .cells; ordered = o; inside = i; radials-are = p .radials-are; whole = w }
+
+-- ---- a test in a run
+
+run-checks : {W A : Type 0} (b : Bool) (x : Refusal) (f : Unit {0} → Read W A) (s : List ℕ) (p : ℕ) {y : Result (Given A)} → run (f tt) s p ≡ y
+    → run (refuse-if b x >>= f) s p ≡ cond b (refused x) y
+unfolding run refuse-if _>>=_
+run-checks true x f s p h = refl
+run-checks false x f s p h = h
+
+-- ---- packets 16 and AF1F
+
+-- the radials are the one walk's
+radial-is : (packet : Packet) (radials bins r : ℕ) → (packet ≡ Packet28 → ⊥) → radial packet radials bins r ≡ anyRadial packet radials bins r
+unfolding radial anyRadial anyFrame beamSpan _>>=_
+radial-is Packet16 radials bins r old = sym (then-then _ _ (frame Packet16 radials bins r))
+radial-is PacketAf1f radials bins r old = sym (then-then _ _ (frame PacketAf1f radials bins r))
+radial-is Packet28 radials bins r old = absurd (old refl)
+
+walk-is : (packet : Packet) (radials bins n r : ℕ) → (packet ≡ Packet28 → ⊥) → radialWalk packet radials bins n r ≡ anyWalk packet radials bins n r
+unfolding radialWalk anyWalk
+walk-is packet radials bins zero r old = refl
+walk-is packet radials bins (suc n) r old =
+    ap₂ (λ t u. t >>= λ azimuth. u >>= λ azimuths. give (azimuth ∷ azimuths)) (radial-is packet radials bins r old) (walk-is packet radials bins n (suc r) old)
+
+plain-first : (packet : Packet) → Plain (firstBin packet)
+unfolding firstBin
+plain-first Packet16 = plain-u16
+plain-first PacketAf1f = plain-by _ _ (plain-unread 2) (plain-give 0)
+plain-first Packet28 = plain-give 0
+
+plain-header : (packet : Packet) → Plain (packetHeader packet)
+unfolding packetHeader
+plain-header packet =
+    plain-then _ (λ avail. plain-by _ _ (plain-check _ _) (plain-then _ (λ first. plain-then _ (λ bins. plain-by _ _ (plain-unread 4)
+    (plain-then _ (λ range. plain-then _ (λ radials. plain-by _ _ (plain-check _ _) (plain-by _ _ (plain-check _ _) (plain-by _ _ (plain-check _ _)
+    (plain-then _ (λ room. plain-by _ _ (plain-check _ _) (plain-give _)) _ plain-remaining)))) _ plain-u16) _ plain-u16)) _ plain-u16) _ (plain-first packet))) _ plain-remaining
+
+abbrev figuresOf : Packet → Header → Figures
+figuresOf packet h = record { packet = packet; «n_radials» = h .radials; «n_bins» = h .bins; geometry = RangeScale (h .range) }
+
+halt-of : {A : Type 0} (e : Ended A) {x : Refusal} → refused x ≡ outcome e → (q : ℕ) × (halted x q ≡ e)
+halt-of (passed b m) h = let z : _≡_ {A = ℕ} 0 1 = cc in absurd (omega arith)
+halt-of (halted y m) {x} h = let l : x ≡ y = cc in (m, ap (λ z. halted z m) l)
+
+pass-of : {A : Type 0} (e : Ended A) {a : A} → accepted a ≡ outcome e → (q : ℕ) × (passed a q ≡ e)
+pass-of (passed b m) {a} h = let l : a ≡ b = cc in (m, ap (λ z. passed z m) l)
+pass-of (halted x m) h = let z : _≡_ {A = ℕ} 0 1 = cc in absurd (omega arith)
+
+-- What a header that passed shows: it ends at byte 30, and the picture is no larger than it may be.
+record Headed (packet : Packet) (s : List ℕ) (h : Header) : Type 0 where
+  ends : passed h 30 ≡ walk (packetHeader packet) s 18
+  radials-are : h .radials ≡ u16At s 28
+  cells : h .radials * h .bins ≤ 4000000
+
+module _ (packet : Packet) (s : List ℕ) (old : packet ≡ Packet28 → ⊥) where
+  headed-by : {h : Header} {q : ℕ} → passed h q ≡ walk (packetHeader packet) s 18 → Headed packet s h
+  headed-by {h} {q} e =
+      let h₁ = past-test (ltb (length s - 18) 12) _ _ _ (e ∙ header-is packet s old) in
+      let h₂ = past-test (isEmpty (u16At s 28) (u16At s 20)) _ _ _ (h₁ .1) in
+      let h₃ = past-test (ltb 4000000 (u16At s 28 * u16At s 20)) _ _ _ (h₂ .1) in
+      let h₄ = past-test (not (eqb (firstOf packet s) 0)) _ _ _ (h₃ .1) in
+      let h₅ = past-test (overBody packet (u16At s 28) (u16At s 20) (length s - 30)) _ _ _ (h₄ .1) in
+      last (ltb-false _ _ (h₃ .0)) (h₅ .1)
+    where
+      last : u16At s 28 * u16At s 20 ≤ 4000000 → passed h q ≡ passed (record { radials = u16At s 28; bins = u16At s 20; range = u16At s 26 }) 30 → Headed packet s h
+      last small l =
+          let a : q ≡ 30 = cc in
+          let b : h ≡ record { radials = u16At s 28; bins = u16At s 20; range = u16At s 26 } = cc in
+          record { ends = ap (passed h) (sym a) ∙ e; radials-are = ap (λ x. x .radials) b; cells = rw b small }
+
+  pub radial-header-refused : {x : Refusal} → refused x ≡ outcome (walk (packetHeader packet) s 18) → refused x ≡ run (radialPacket packet) s 18
+  unfolding radialPacket
+  radial-header-refused e = run-halted _ (packetHeader packet) (plain-header packet) s 18 (halt-of _ e .1)
+
+  module _ {h : Header} (e : accepted h ≡ outcome (walk (packetHeader packet) s 18)) where
+    headed : Headed packet s h
+    headed = headed-by (pass-of _ e .1)
+
+    pub radial-small : ((i : ℕ) → Fits w8 (getD s i 0)) → (h .radials ≤ 100000) × (h .radials * h .bins ≤ 4000000)
+    unfolding u16At
+    radial-small bytes = (omega (arith, headed .radials-are, bytes 28, bytes 29), headed .cells)
+
+    pub radial-run : run (radialPacket packet) s 18 ≡ sweepFrom (figuresOf packet h) (run (anyWalk packet (h .radials) (h .bins) (h .radials) 0) s 30)
+    unfolding radialPacket
+    radial-run =
+        run-passed _ (packetHeader packet) (plain-header packet) s 18 (headed .ends)
+        ∙ ap (λ t. run {W = Unit {0}} (t >>= λ azimuths. give (record { figures = figuresOf packet h; azimuths = azimuths })) s 30) (walk-is packet (h .radials) (h .bins) (h .radials) 0 old)
+        ∙ sweep-run (Unit {0}) (figuresOf packet h) (anyWalk packet (h .radials) (h .bins) (h .radials) 0) s 30
+
+    -- the part that holds the radials is the whole body
+    pub radial-plotted : {f : Figures} {at next : ℕ}
+        → Planned f at next s (sweepFrom (figuresOf packet h) (run (anyWalk packet (h .radials) (h .bins) (h .radials) 0) s 30))
+        → Plotted f 0 (length s) at s (run (radialPacket packet) s 18)
+    radial-plotted {f} {at} {next} p =
+        let q : Planned f at next (slice 0 (length s) s) (sweepFrom (figuresOf packet h) (run (anyWalk packet (h .radials) (h .bins) (h .radials) 0) s 30)) =
+        rw (take-length s) p in
+        plotted q (q .radials .next) (omega arith) (omega arith) (radial-run ∙ q .whole)
+
+-- ---- packet 28
+
+-- a length that is not below 0 is the number itself
+length-is : (n room : ℕ) → n < 4294967296 → bodyShort (signed 2147483648 n) room ≡ false → atLeast0 (signed 2147483648 n) ≡ n
+unfolding bodyShort
+length-is n room small h = go (ltb n 2147483648) refl
+  where
+    go : (b : Bool) → ltb n 2147483648 ≡ b → atLeast0 (signed 2147483648 n) ≡ n
+    go true e = ap atLeast0 (signed-low 2147483648 n (ltb-true _ _ e))
+    go false e =
+        let k : true ≡ false = rw (signed-high 2147483648 4294967295 n refl (ltb-false _ _ e) small) at h in
+        let z : _≡_ {A = ℕ} 0 1 = cc in
+        absurd (omega arith)
+
+inside-is : (size : ℤ) (room : ℕ) → bodyShort size room ≡ false → atLeast0 size ≤ room
+unfolding bodyShort
+inside-is size room h = go (ltZ size (pos 0)) h
+  where
+    go : (b : Bool) → b || ltb room (atLeast0 size) ≡ false → atLeast0 size ≤ room
+    go true k = let z : _≡_ {A = ℕ} 0 1 = cc in absurd (omega arith)
+    go false k = ltb-false _ _ k
+
+module _ (s : List ℕ) where
+  generic-is : run genericPacket s 18
+      ≡ cond (ltb (length s - 18) 6) (refused (kind 12 (nat (18 + (length s - 18)) ∷ [])))
+      (cond (bodyShort (i32At s 20) (length s - 24)) (refused (kind 23 (item Item.PacketBody ∷ nat (length s - 24) ∷ nat (atLeast0 (i32At s 20)) ∷ [])))
+      (shifted 24 (run payload (slice 24 (24 + u32At s 20) s) 0)))
+  unfolding genericPacket remaining unread u32 run _>>=_ _>>_ i32At
+  generic-is = run-checks _ _ _ s 18 (run-checks _ _ _ s 24 (run-within tt payload s 24 (u32At s 20)))
+
+  pub generic-cut : 18 ≤ length s → length s < 24 → refused (kind 12 (nat (length s) ∷ [])) ≡ run genericPacket s 18
+  generic-cut h k =
+      let e : 18 + (length s - 18) ≡ length s = omega arith in
+      let t : length s - 18 < 6 = omega arith in
+      rw generic-is (simp (lt-ltb _ _ t, e))
+
+  module _ (long : 24 ≤ length s) {size : ℤ} {need : ℕ} (si : size ≡ i32At s 20) (ne : need ≡ atLeast0 size) {short : Bool} (sh : short ≡ bodyShort size (length s - 24)) where
+    pub generic-short : short ≡ true → refused (kind 23 (item Item.PacketBody ∷ nat (length s - 24) ∷ nat need ∷ [])) ≡ run genericPacket s 18
+    generic-short h = let t : 6 ≤ length s - 18 = omega arith in rw (generic-is, ← si, ← ne, ← sh) (simp (le-ltb _ _ t, h))
+
+    module _ (enough : short ≡ false) where
+      pub generic-inside : 24 + need ≤ length s
+      generic-inside = let k : need ≤ length s - 24 = rw ne (inside-is size (length s - 24) (sym sh ∙ enough)) in omega (arith, long, k)
+
+      module _ (bytes : (i : ℕ) → Fits w8 (getD s i 0)) where
+        need-is : need ≡ u32At s 20
+        unfolding i32At
+        need-is =
+            ne ∙ ap atLeast0 si
+            ∙ length-is (u32At s 20) (length s - 24) (u32-small s 20 (λ i. omega (arith, bytes i))) (ap (λ z. bodyShort z (length s - 24)) (sym si) ∙ sym sh ∙ enough)
+
+        generic-run : run genericPacket s 18 ≡ shifted 24 (run payload (slice 24 (24 + need) s) 0)
+        generic-run = let t : 6 ≤ length s - 18 = omega arith in rw (generic-is, need-is, ← si, ← sh) (simp (le-ltb _ _ t, enough))
+
+        -- the part as the code has it
+        part-is : take (24 + need - 24) (drop 24 s) ≡ slice 24 (24 + need) s
+        part-is = part-slice s 24 (24 + need) (omega arith)
+
+        pub generic-refused : {x : Refusal} → refused x ≡ run payload (take (24 + need - 24) (drop 24 s)) 0 → refused x ≡ run genericPacket s 18
+        unfolding shifted
+        generic-refused h = ap (shifted 24) (h ∙ ap (λ l. run payload l 0) part-is) ∙ sym generic-run
+
+        pub generic-plotted : {f : Figures} {at next : ℕ} → Planned f at next (take (24 + need - 24) (drop 24 s)) (run payload (take (24 + need - 24) (drop 24 s)) 0)
+            → Plotted f 24 (24 + need) at s (run genericPacket s 18)
+        unfolding shifted
+        generic-plotted {f} {at} {next} p =
+            let q : Planned f at next (slice 24 (24 + need) s) (run payload (slice 24 (24 + need) s) 0) = rw part-is at p in
+            plotted q (24 + q .radials .next) (omega arith) generic-inside (generic-run ∙ ap (shifted 24) (q .whole))
+
+-- ---- the body
+
+module _ (s : List ℕ) where
+  symbology-is : run symbology s 0
+      ≡ cond (ltb (length s) 18) (refused (kind 12 (nat (length s) ∷ [])))
+      (cond (not (eqb (u16At s 0) 65535 && eqb (u16At s 2) 1)) (refused (kind 13 (whole (signed 32768 (u16At s 0)) ∷ whole (signed 32768 (u16At s 2)) ∷ [])))
+      (run (packetOf (u16At s 16)) s 18))
+  unfolding symbology remaining unread u16 run _>>=_ _>>_
+  symbology-is =
+      let e : length s - 0 ≡ length s = omega arith in
+      rw (← e) (run-checks _ _ _ s 0 (run-checks _ _ _ s 4 refl))
+
+  pub body-cut : length s < 18 → refused (kind 12 (nat (length s) ∷ [])) ≡ run symbology s 0
+  body-cut h = rw symbology-is (simp (lt-ltb _ _ h))
+
+  module _ (long : 18 ≤ length s) {divider block : ℕ} (de : divider ≡ u16At s 0) (be : block ≡ u16At s 2) {header : Bool} (he : header ≡ (eqb divider 65535 && eqb block 1)) where
+    pub body-other : {d b : ℤ} → not header ≡ true → d ≡ signed 32768 divider → b ≡ signed 32768 block → refused (kind 13 (whole d ∷ whole b ∷ [])) ≡ run symbology s 0
+    body-other h k l = rw (symbology-is, ← de, ← be, ← he) (simp (le-ltb _ _ long, h, k, l))
+
+    module _ (known : not header ≡ false) {code : ℕ} (ce : code ≡ u16At s 16) where
+      body-packet : run symbology s 0 ≡ run (packetOf code) s 18
+      body-packet = rw (symbology-is, ← de, ← be, ← he, ← ce) (simp (le-ltb _ _ long, known))
+
+      pub body-16 : code ≡ 16 → run symbology s 0 ≡ run (radialPacket Packet16) s 18
+      unfolding packetOf
+      body-16 h = body-packet ∙ rw h refl
+
+      module _ (no16 : code ≡ 16 → ⊥) where
+        pub body-af1f : code ≡ 44831 → run symbology s 0 ≡ run (radialPacket PacketAf1f) s 18
+        unfolding packetOf
+        body-af1f h = body-packet ∙ rw h refl
+
+        module _ (noAf1f : code ≡ 44831 → ⊥) where
+          pub body-28 : code ≡ 28 → run symbology s 0 ≡ run genericPacket s 18
+          unfolding packetOf
+          body-28 h = body-packet ∙ rw h refl
+
+          pub body-unknown : {c : ℤ} → (code ≡ 28 → ⊥) → c ≡ signed 32768 code → refused (kind 14 (whole c ∷ [])) ≡ run symbology s 0
+          unfolding packetOf run
+          body-unknown h k = rw (body-packet) (simp (ne-eqb _ _ no16, ne-eqb _ _ noAf1f, ne-eqb _ _ h, k))

@@ -1,0 +1,126 @@
+-- What a plan and the terms say of a body's picture, a law for each answer of the code. Assumes nothing.
+use Prim.Native.Nat.{ℕ, _*_, _-_, _≤_}
+use native.Mathlib.Omega.{arith}
+use mathlib.Core.List.{List, [], _∷_}
+use mathlib.Core.Bool.{Bool, true, false, not}
+use mathlib.Core.Path.{_≡_, refl, sym, ap, subst, _∙_}
+use lib.ListN.{length, take, drop}
+use lib.Dec.{ltb}
+use lib.IntN.{ℤ, pos}
+use lib.Signed.{ltZ}
+use lib.Ieee.{Float}
+use borrow.Author.Tests.{ltb-false}
+use Rattle.bytes.specs.Refusal.{Refusal, kind, buffer, refusalOf}
+use Rattle.bytes.specs.Result.{Result, accepted, refused, refuse, lent}
+use Rattle.bytes.specs.Reading.{run, Given}
+use Rattle.bytes.proofs.Readings.{part-slice}
+use Rattle.xdr.specs.Xdr.{atLeast0}
+use Rattle.bytes.specs.declared.error.Level3DecodeError.{Level3DecodeError}
+use Rattle.bytes.specs.declared.error.Buffer.the-variants as Buffer
+use Rattle.symbology.specs.Symbology.{Sweep, bodyShort, symbology}
+use Rattle.symbology.specs.Answers.{Picture, joined, pictureOf, asked, stepTest, roomIn, admit, decodeFor, figuresIn}
+use Rattle.symbology.specs.Walk.{anyWalk, Plotted, Plots}
+use Rattle.symbology.specs.declared.figures.Figures.{Figures}
+use Rattle.symbology.specs.declared.figures.Terms.{Terms}
+use Rattle.symbology.specs.declared.figures.Increment.{Increment}
+use Rattle.symbology.specs.declared.figures.Increment.the-variants as Increment
+use Rattle.symbology.specs.declared.spans.BodyPlan.{BodyPlan}
+use Rattle.symbology.specs.declared.spans.BodyPlan.the-variants as BodyPlan
+
+-- ---- 23, of a length that the code holds as y
+
+module _ {y z : ℤ} (e : y ≡ z) (room : ℕ) where
+  pub short-below : ltZ y (pos 0) ≡ true → true ≡ bodyShort z room
+  unfolding bodyShort
+  short-below h = rw (← e) (simp h)
+
+  pub short-over : {n : ℕ} → ltZ y (pos 0) ≡ false → n ≡ atLeast0 y → ltb room n ≡ bodyShort z room
+  unfolding bodyShort
+  short-over h k = rw (k, ← e) (simp h)
+
+-- ---- a plan, once the code has matched it
+
+module _ (body : List ℕ) (R : Result (Given Sweep)) {r : BodyPlan} (plots : Plots r body R) where
+  pub plan-refused : {e : Level3DecodeError} → r ≡ BodyPlan.Refused e → refused (refusalOf e) ≡ R
+  unfolding Plots
+  plan-refused h = subst (λ x. Plots x body R) h plots
+
+  pub plan-value : {f : Figures} {from to at : ℕ} → r ≡ BodyPlan.Value f from to at → Plotted f from to at body R
+  unfolding Plots
+  plan-value h = subst (λ x. Plots x body R) h plots
+
+-- ---- the picture
+
+abbrev drawn : Figures → Given (List Float) → Picture
+drawn f g = record { figures = f; azimuths = g .value; codes = joined (g .rows) }
+
+module _ (body : List ℕ) where
+  pub picture-refused : {x : Refusal} → refused x ≡ run symbology body 0 → refused x ≡ pictureOf body
+  unfolding pictureOf
+  picture-refused h = rw (← h) refl
+
+  pub picture-is : {f : Figures} {from to at : ℕ} (p : Plotted f from to at body (run symbology body 0)) → accepted (drawn f (p .radials)) ≡ pictureOf body
+  unfolding pictureOf
+  picture-is p = rw (p .whole) refl
+
+-- the radials, in the part of the body that the code takes
+abbrev radialsIn : List ℕ → Figures → ℕ → ℕ → ℕ → Result (Given (List Float))
+radialsIn body f from to at = run (anyWalk (f .packet) (f .«n_radials») (f .«n_bins») (f .«n_radials») 0) (take (to - from) (drop from body)) at
+
+pub radials-there : (body : List ℕ) {f : Figures} {from to at : ℕ} (p : Plotted f from to at body (run symbology body 0)) → radialsIn body f from to at ≡ accepted (p .radials)
+radials-there body {f} {from} {to} {at} p = rw (part-slice body from to (p .ordered)) (p .radials-are)
+
+-- ---- on terms
+
+refuse-passed : {A : Type 0} (b : Bool) (x : Refusal) (r : Result A) {a : A} → accepted a ≡ refuse b x r → (b ≡ false) × (accepted a ≡ r)
+refuse-passed true x r h = let z : _≡_ {A = ℕ} 0 1 = cc in absurd (omega arith)
+refuse-passed false x r h = (refl, h)
+
+step-passed : {A : Type 0} (i : Increment) (r : Result A) {a : A} → accepted a ≡ stepTest i r → accepted a ≡ r
+unfolding stepTest
+step-passed Increment.Fine r h = h
+step-passed (Increment.NonPositive x) r h = let z : _≡_ {A = ℕ} 0 1 = cc in absurd (omega arith)
+
+pub admit-room : (t : Terms) (na nc : ℕ) (f : Figures) → accepted tt ≡ admit t na nc f → (f .«n_radials» ≤ na) × (f .«n_radials» * f .«n_bins» ≤ nc)
+unfolding admit roomIn
+admit-room t na nc f h =
+    let s = refuse-passed (not (asked t (f .packet))) (kind 10 []) _ h .1 in
+    let a = refuse-passed (ltb na (f .«n_radials»)) (kind 36 (buffer Buffer.Azimuths ∷ [])) _ (step-passed (t .increment) _ s) in
+    let b = refuse-passed (ltb nc (f .«n_radials» * f .«n_bins»)) (kind 36 (buffer Buffer.Codes ∷ [])) _ (a .1) in
+    (ltb-false _ _ (a .0), ltb-false _ _ (b .0))
+
+-- the other way: where the packet is asked for and the increment is fine, the room decides
+pub admit-fine : (t : Terms) (na nc : ℕ) (f : Figures) {asks : Bool} {r : Result (Unit {0})} → asks ≡ asked t (f .packet) → not asks ≡ false
+    → t .increment ≡ Increment.Fine → r ≡ roomIn t na nc (f .«n_radials») (f .«n_radials» * f .«n_bins») → r ≡ admit t na nc f
+unfolding admit stepTest
+admit-fine t na nc f a y i h = rw (← a) (simp y (h ∙ sym (ap (λ x. stepTest x (roomIn t na nc (f .«n_radials») (f .«n_radials» * f .«n_bins»))) i)))
+
+-- the figures, and the buffers that held az and cs
+abbrev Answered : Result Picture → List Float → List ℕ → Result Figures → List Float → List ℕ → Type 0
+Answered d az cs r az' cs' = (r ≡ figuresIn d) × ((az' ≡ lent d (λ p. p .azimuths) az) × (cs' ≡ lent d (λ p. p .codes) cs))
+
+answered : {d d' : Result Picture} (az : List Float) (cs : List ℕ) → d ≡ d' → Answered d' az cs (figuresIn d) (lent d (λ p. p .azimuths) az) (lent d (λ p. p .codes) cs)
+answered az cs e = (ap figuresIn e, (ap (λ d. lent d (λ p. p .azimuths) az) e, ap (λ d. lent d (λ p. p .codes) cs) e))
+
+module _ (t : Terms) (body : List ℕ) (az : List Float) (cs : List ℕ) where
+  abbrev Decoded : Result Figures → List Float → List ℕ → Type 0
+  Decoded = Answered (decodeFor t body (length az) (length cs)) az cs
+
+  pub decode-refused : {x : Refusal} → refused x ≡ run symbology body 0 → Decoded (refused x) az cs
+  unfolding decodeFor
+  decode-refused {x} h = let d : refused x ≡ decodeFor t body (length az) (length cs) = rw (← picture-refused body h) refl in answered az cs d
+
+  module _ {f : Figures} {from to at : ℕ} (p : Plotted f from to at body (run symbology body 0)) where
+    pub decode-halted : {x : Refusal} → refused x ≡ admit t (length az) (length cs) f → Decoded (refused x) az cs
+    unfolding decodeFor
+    decode-halted {x} h = let d : refused x ≡ decodeFor t body (length az) (length cs) = rw (← picture-is body p, ← h) refl in answered az cs d
+
+    pub decode-is : {az' : List Float} {cs' : List ℕ} → accepted tt ≡ admit t (length az) (length cs) f
+        → az' ≡ lent (radialsIn body f from to at) (λ g. g .value) az → cs' ≡ lent (radialsIn body f from to at) (λ g. joined (g .rows)) cs
+        → Decoded (accepted f) az' cs'
+    unfolding decodeFor
+    decode-is h a c =
+        let d : accepted (drawn f (p .radials)) ≡ decodeFor t body (length az) (length cs) = rw (← picture-is body p, ← h) refl in
+        let w = answered az cs d in
+        let e = radials-there body p in
+        (w .0, (a ∙ ap (λ r. lent r (λ g. g .value) az) e ∙ w .1 .0, c ∙ ap (λ r. lent r (λ g. joined (g .rows)) cs) e ∙ w .1 .1))

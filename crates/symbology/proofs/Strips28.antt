@@ -1,0 +1,127 @@
+-- Packet 28: the radials as the reading has them, whose first gives the number of bins, are the one walk's. Assumes nothing.
+use Prim.Native.Nat.{ℕ, zero, suc, _+_, _*_, _-_, _<_}
+use native.Mathlib.Omega.{arith}
+use mathlib.Core.List.{List, [], _∷_, append-nil}
+use mathlib.Core.Bool.{true, false, not}
+use mathlib.Core.Path.{_≡_, refl, sym, ap, ap₂, _∙_}
+use lib.Seq.{slice}
+use lib.Ieee.{Float}
+use borrow.Author.Tests.{eq-eqb}
+use Rattle.bytes.specs.Refusal.{Refusal}
+use Rattle.bytes.specs.Result.{Result, accepted, refused}
+use Rattle.bytes.specs.Reading.{Flat, give, _>>=_, after-row, run, Given, Ended, passed, halted, walk}
+use Rattle.bytes.proofs.Readings.{walk-give, then-passed, then-halted, passed-check}
+use Rattle.bytes.proofs.Runs.{then-then, run-then, prepend, and-then, same-first, same-first-by, past-check, same-last, row-passed, row-halted}
+use Rattle.symbology.specs.Rows.{rowOf}
+use Rattle.symbology.specs.Symbology.{Sweep, Strip, xdrFrame, xdrRadial, xdrWalk, xdrRadials}
+use Rattle.symbology.specs.Walk.{expectedOf, stripSpan, anyFrame, anyRadial, anyWalk, sweepFrom}
+use Rattle.symbology.proofs.Strips.{framed}
+use Rattle.symbology.proofs.Writing.{plain-xdr-frame, plain-frame}
+use Rattle.symbology.specs.declared.figures.Figures.{Figures}
+use Rattle.symbology.specs.declared.figures.Packet.the-variants.{Packet28}
+use Rattle.symbology.specs.declared.figures.Geometry.the-variants.{Gates}
+
+-- ---- one radial
+
+module _ (radials bins r : ℕ) (s : List ℕ) (p : ℕ) where
+  -- the frame as the one walk has it
+  span-passed : {strip : Strip} {q : ℕ} → passed strip q ≡ walk (xdrFrame radials r (expectedOf false bins)) s p
+      → passed (record { azimuth = strip .azimuth; size = strip .bins * 4 }) q ≡ walk (anyFrame Packet28 radials bins r) s p
+  unfolding anyFrame stripSpan
+  span-passed e = sym (then-passed _ (xdrFrame radials r (expectedOf false bins)) s p e ∙ walk-give _ s _)
+
+  module _ {B : Type 0} (e : ℕ → ℕ) (f : Strip → Flat B) (g : Float → Flat B) where
+    radial-passed : {strip : Strip} {q : ℕ} → passed strip q ≡ walk (xdrFrame radials r e) s p → passed strip q ≡ walk (xdrFrame radials r (expectedOf false bins)) s p
+        → strip .bins ≡ bins → ((m : ℕ) → run (f strip) s m ≡ run (g (strip .azimuth)) s m)
+        → run (xdrRadial radials r e >>= f) s p ≡ run (anyRadial Packet28 radials bins r >>= g) s p
+    unfolding xdrRadial anyRadial
+    radial-passed {strip} {q} h k b l =
+        row-passed _ _ (λ x. x) f (xdrFrame radials r e) (plain-xdr-frame radials r e) s p h
+        ∙ ap₂ (λ n y. after-row (rowOf Packet28 n r (slice q (q + strip .bins * 4) s)) y) b (l (q + strip .bins * 4))
+        ∙ sym (row-passed (λ x. x .size) _ _ g (anyFrame Packet28 radials bins r) (plain-frame Packet28 radials bins r) s p (span-passed k))
+
+  module _ {B : Type 0} (f : Strip → Flat B) (g : Float → Flat B) where
+    radial-halted : {x : Refusal} {q : ℕ} → halted x q ≡ walk (xdrFrame radials r (expectedOf false bins)) s p
+        → run (xdrRadial radials r (expectedOf false bins) >>= f) s p ≡ run (anyRadial Packet28 radials bins r >>= g) s p
+    unfolding xdrRadial anyRadial anyFrame stripSpan
+    radial-halted h =
+        sym (row-halted _ _ (λ x. x) f (xdrFrame radials r (expectedOf false bins)) (plain-xdr-frame radials r _) s p h)
+        ∙ row-halted (λ x. x .size) _ _ g (anyFrame Packet28 radials bins r) (plain-frame Packet28 radials bins r) s p
+        (then-halted _ (xdrFrame radials r (expectedOf false bins)) s p h)
+
+-- ---- the radials after the first
+
+further : (radials bins : ℕ) (s : List ℕ) (n r p : ℕ) → run (xdrWalk radials bins n r) s p ≡ run (anyWalk Packet28 radials bins n r) s p
+unfolding xdrWalk anyWalk expectedOf
+further radials bins s zero r p = refl
+further radials bins s (suc n) r p = go (further radials bins s n (suc r)) (walk (xdrFrame radials r (expectedOf false bins)) s p) refl
+  where
+    go : ((m : ℕ) → run (xdrWalk radials bins n (suc r)) s m ≡ run (anyWalk Packet28 radials bins n (suc r)) s m) → (w : Ended Strip)
+        → walk (xdrFrame radials r (expectedOf false bins)) s p ≡ w → run (xdrWalk radials bins (suc n) r) s p ≡ run (anyWalk Packet28 radials bins (suc n) r) s p
+    go rest-is (passed strip q) h =
+        radial-passed radials bins r s p (expectedOf false bins) _ _ (sym h) (sym h) (framed radials r (expectedOf false bins) s p strip q (sym h) .bins-are)
+        (λ m. same-last (λ rest. give (strip .azimuth ∷ rest)) (xdrWalk radials bins n (suc r)) (anyWalk Packet28 radials bins n (suc r)) s m (rest-is m))
+    go rest-is (halted x q) h = radial-halted radials bins r s p _ _ (sym h)
+
+-- ---- the first radial
+
+-- its bins are its own: the frame passes as one of that many bins
+own-bins : (radials : ℕ) (s : List ℕ) (p : ℕ) {strip : Strip} {q : ℕ} → passed strip q ≡ walk (xdrFrame radials 0 (expectedOf true 0)) s p
+    → passed strip q ≡ walk (xdrFrame radials 0 (expectedOf false (strip .bins))) s p
+unfolding xdrFrame expectedOf
+own-bins radials s p {strip} {q} =
+    same-first _ _ _ s p λ _ m. same-first-by _ _ _ s m λ m. same-first _ _ _ s m λ _ m. same-first _ _ _ s m λ _ m.
+    same-first-by _ _ _ s m λ m. same-first _ _ _ s m λ _ m. same-first-by _ _ _ s m λ m h.
+    let h₁ = passed-check _ _ _ s m h in
+    let h₂ = passed-check _ _ _ s m (h₁ .1) in
+    let h₃ = passed-check _ _ _ s m (h₂ .1) in
+    past-check _ _ _ s m (ap not (eq-eqb _ _ (last (h₃ .1 ∙ walk-give _ s m)))) (h₁ .1)
+  where
+    last : {azimuth : Float} {bins m : ℕ} → passed strip q ≡ passed (record { azimuth = azimuth; bins = bins }) m → bins ≡ strip .bins
+    last {azimuth} {bins} e = let a : strip ≡ record { azimuth = azimuth; bins = bins } = cc in sym (ap (λ x. x .bins) a)
+
+-- ---- the sweep
+
+pub sweep-run : (W : Type 0) (figures : Figures) (t : Flat (List Float)) (s : List ℕ) (p : ℕ)
+    → run {W = W} (t >>= λ azimuths. give (record { figures = figures; azimuths = azimuths })) s p ≡ sweepFrom figures (run t s p)
+unfolding run and-then prepend
+sweep-run W figures t s p = run-then _ t s p ∙ go (run t s p)
+  where
+    go : (r : Result (Given (List Float))) → and-then r (λ azimuths q. accepted (record { value = record { figures = figures; azimuths = azimuths }; next = q; rows = [] })) ≡ sweepFrom figures r
+    go (accepted g) = ap (λ rows. accepted (record { value = record { figures = figures; azimuths = g .value }; next = g .next; rows = rows })) (append-nil (g .rows))
+    go (refused x) = refl
+
+module _ (radials : ℕ) (gateWidth firstGate : Float) (s : List ℕ) (p : ℕ) where
+  -- the first frame is refused
+  pub radials-refused : {x : Refusal} {q : ℕ} → halted x q ≡ walk (xdrFrame radials 0 (expectedOf true 0)) s p → refused x ≡ run (xdrRadials radials gateWidth firstGate) s p
+  unfolding xdrRadials xdrRadial expectedOf
+  radials-refused e = row-halted _ _ (λ x. x) _ (xdrFrame radials 0 (expectedOf true 0)) (plain-xdr-frame radials 0 _) s p e
+
+  -- the first frame passes: the sweep is the one walk's
+  pub radials-are : {strip : Strip} {q : ℕ} → 0 < radials → passed strip q ≡ walk (xdrFrame radials 0 (expectedOf true 0)) s p
+      → run (xdrRadials radials gateWidth firstGate) s p
+      ≡ sweepFrom (record { packet = Packet28; «n_radials» = radials; «n_bins» = strip .bins; geometry = Gates gateWidth firstGate }) (run (anyWalk Packet28 radials (strip .bins) radials 0) s p)
+  unfolding xdrRadials anyWalk expectedOf _>>=_
+  radials-are {strip} h e =
+      let n : radials ≡ suc (radials - 1) = omega (arith, h) in
+      radial-passed radials (strip .bins) 0 s p (expectedOf true 0) _ _ e (own-bins radials s p e) refl after-first
+      ∙ ap (λ t. run t s p) (sym (then-then _ sweep (anyRadial Packet28 radials (strip .bins) 0)))
+      ∙ sweep-run ⊥ figures (anyWalk Packet28 radials (strip .bins) (suc (radials - 1)) 0) s p
+      ∙ ap (λ k. sweepFrom figures (run (anyWalk Packet28 radials (strip .bins) k 0) s p)) (sym n)
+    where
+      figures : Figures
+      figures = record { packet = Packet28; «n_radials» = radials; «n_bins» = strip .bins; geometry = Gates gateWidth firstGate }
+
+      sweep : List Float → Flat Sweep
+      sweep azimuths = give (record { figures = figures; azimuths = azimuths })
+
+      others : Flat (List Float)
+      others = anyWalk Packet28 radials (strip .bins) (radials - 1) 1
+
+      add : List Float → Flat (List Float)
+      add rest = give (strip .azimuth ∷ rest)
+
+      after-first : (m : ℕ) → run (xdrWalk radials (strip .bins) (radials - 1) 1 >>= λ rest. sweep (strip .azimuth ∷ rest)) s m ≡ run (others >>= add >>= sweep) s m
+      after-first m =
+          same-last _ (xdrWalk radials (strip .bins) (radials - 1) 1) others s m (further radials (strip .bins) s (radials - 1) 1 m)
+          ∙ ap (λ t. run t s m) (sym (then-then add sweep others))

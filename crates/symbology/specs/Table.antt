@@ -1,0 +1,131 @@
+-- Bodies with their pictures or refusals: document 01's table 'Beams on both edges', lines P1 to P10, and bodies of packet 28.
+use Prim.Native.Nat.{ℕ, _/_, _%_, _+_}
+use mathlib.Core.List.{List, [], _∷_, _++_}
+use mathlib.Core.Path.{_≡_}
+use lib.ListN.{replicate, length}
+use lib.Ieee.{Float}
+use Rattle.bytes.specs.Float.{f32, f64}
+use Rattle.bytes.specs.Refusal.{kind, nat, float, item}
+use Rattle.bytes.specs.Result.{Result, accepted, refused}
+use Rattle.bytes.specs.Reading.{Piece, as-number, as-unread, as-data, pieces}
+use Rattle.bytes.specs.declared.error.XdrItem.the-variants as Item
+use Rattle.symbology.specs.Answers.{Picture, pictureOf}
+use Rattle.symbology.specs.Symbology.{symbology}
+use Rattle.symbology.specs.declared.figures.Packet.{Packet}
+use Rattle.symbology.specs.declared.figures.Packet.the-variants.{Packet16, PacketAf1f, Packet28}
+use Rattle.symbology.specs.declared.figures.Geometry.the-variants.{RangeScale, Gates}
+
+-- a halfword
+abbrev pub two : ℕ → List ℕ
+two n = n / 256 ∷ n % 256 ∷ []
+
+-- the first 18 bytes, with the packet code
+abbrev pub start : ℕ → List ℕ
+start code = two 0xFFFF ++ two 1 ++ replicate 12 0 ++ two code
+
+-- a body of packet 16 or AF1F with one radial of so many bins, range scale 1: the radial's count, start and width, and its data
+abbrev pub oneRadial : ℕ → ℕ → ℕ × ℕ × ℕ → List ℕ → List ℕ
+oneRadial code bins beam bytes = start code ++ two 0 ++ two bins ++ replicate 4 0 ++ two 1 ++ two 1 ++ two (beam .0) ++ two (beam .1) ++ two (beam .2) ++ bytes
+
+-- its picture
+abbrev pub onePicture : Packet → ℕ → Float → List ℕ → Result Picture
+onePicture packet bins centre row =
+    accepted (record { figures = record { packet = packet; «n_radials» = 1; «n_bins» = bins; geometry = RangeScale 1 }; azimuths = centre ∷ []; codes = row })
+
+pub record Beams : Type 0 where
+  -- P1 17 bytes: 12
+  pub p1 : pictureOf (replicate 17 0) ≡ refused (kind 12 (nat 17 ∷ []))
+  -- P2 18 bytes, code 16: 12
+  pub p2 : pictureOf (start 16) ≡ refused (kind 12 (nat 18 ∷ []))
+  -- P3 18 bytes, code 17: 14
+  pub p3 : pictureOf (start 17) ≡ refused (kind 14 (nat 17 ∷ []))
+  -- P4 packet 28, 24 bytes, length 0: 23, unsigned, 0 left, 4 needed
+  pub p4 : pictureOf (start 28 ++ replicate 6 0) ≡ refused (kind 23 (item Item.Uint ∷ nat 0 ∷ nat 4 ∷ []))
+  -- P5 packet 16, one radial (2, 0, 10), data 7 9: centre 0.5, row 7 9
+  pub p5 : pictureOf (oneRadial 16 2 (2, 0, 10) (7 ∷ 9 ∷ [])) ≡ onePicture Packet16 2 (f64 5 10) (7 ∷ 9 ∷ [])
+  -- P6 width 100 passes, 101 is 20, with the width in degrees
+  pub p6-passes : pictureOf (oneRadial 16 2 (2, 0, 100) (7 ∷ 9 ∷ [])) ≡ onePicture Packet16 2 (f64 50 10) (7 ∷ 9 ∷ [])
+  pub p6-is-20 : pictureOf (oneRadial 16 2 (2, 0, 101) (7 ∷ 9 ∷ [])) ≡ refused (kind 20 (nat 0 ∷ float (f32 101 10) ∷ []))
+  -- AF1F, 5 bins: P7 `31 25` gives 1 1 1 5 5
+  pub p7 : pictureOf (oneRadial 0xAF1F 5 (1, 0, 10) (0x31 ∷ 0x25 ∷ [])) ≡ onePicture PacketAf1f 5 (f64 5 10) (1 ∷ 1 ∷ 1 ∷ 5 ∷ 5 ∷ [])
+  -- P8 `31 35` is 22 with 3
+  pub p8 : pictureOf (oneRadial 0xAF1F 5 (1, 0, 10) (0x31 ∷ 0x35 ∷ [])) ≡ refused (kind 22 (nat 0 ∷ nat 3 ∷ nat 5 ∷ []))
+  -- P9 `31 25 F7 00` as P7
+  pub p9 : pictureOf (oneRadial 0xAF1F 5 (2, 0, 10) (0x31 ∷ 0x25 ∷ 0xF7 ∷ 0x00 ∷ [])) ≡ onePicture PacketAf1f 5 (f64 5 10) (1 ∷ 1 ∷ 1 ∷ 5 ∷ 5 ∷ [])
+  -- P10 start 3,599, width 10: 360.4
+  pub p10 : pictureOf (oneRadial 16 2 (2, 3599, 10) (7 ∷ 9 ∷ [])) ≡ onePicture Packet16 2 (f64 3604 10) (7 ∷ 9 ∷ [])
+  -- a run of length 0 adds nothing, and the row goes on after it
+  pub zero-run : pictureOf (oneRadial 0xAF1F 5 (2, 0, 10) (0x31 ∷ 0x07 ∷ 0x25 ∷ 0x00 ∷ [])) ≡ onePicture PacketAf1f 5 (f64 5 10) (1 ∷ 1 ∷ 1 ∷ 5 ∷ 5 ∷ [])
+
+-- ---- packet 28
+
+-- a word
+abbrev pub four : ℕ → List ℕ
+four n = two (n / 65536) ++ two (n % 65536)
+
+-- a list of no elements
+abbrev pub noList : List ℕ
+noList = four 0 ++ four 0
+
+-- a list of one parameter, whose name has one byte and three of padding, and whose value is empty
+abbrev pub oneParameter : List ℕ
+oneParameter = four 1 ++ four 0 ++ four 1 ++ (65 ∷ 0 ∷ 0 ∷ 0 ∷ []) ++ four 0
+
+-- a radial of two bins: its azimuth as an f32's bits, elevation 0, width 1, the number of bins, no attributes, and its array
+abbrev pub strip : ℕ → ℕ → ℕ → ℕ → List ℕ
+strip azimuth bins a b = four azimuth ++ four 0 ++ four 0x3F800000 ++ four bins ++ four 0 ++ four 2 ++ four a ++ four b
+
+-- a component of a type: no description, gates of 250 m from 125 m on, its parameters, and its radials
+abbrev pub component : ℕ → List ℕ → ℕ → List ℕ → List ℕ
+component type parameters radials bytes = four type ++ four 0 ++ four 0x437A0000 ++ four 0x42FA0000 ++ parameters ++ four radials ++ bytes
+
+-- two radials of two bins, at 10 and 11 degrees: the second of `bins` bins, its last code `code`
+abbrev pub strips : ℕ → ℕ → List ℕ
+strips bins code = strip 0x41200000 2 1 2 ++ strip 0x41300000 bins 3 code
+
+-- a body: its first 18 bytes, two unread, the payload's length, and the payload: the product block, its parameters, and the components
+abbrev pub generic : List ℕ → List ℕ → List ℕ
+generic parameters components = start 28 ++ two 0 ++ four (72 + length parameters + length components) ++ replicate 72 0 ++ parameters ++ components
+
+abbrev pub twoStrips : List ℕ
+twoStrips = four 1 ++ four 0 ++ component 1 noList 2 (strips 2 65535)
+
+abbrev pub genericPicture : Result Picture
+genericPicture =
+    accepted (record {
+      figures = record { packet = Packet28; «n_radials» = 2; «n_bins» = 2; geometry = Gates (f32 250 1) (f32 125 1) };
+      azimuths = f64 105 10 ∷ f64 115 10 ∷ [];
+      codes = 1 ∷ 2 ∷ 3 ∷ 65535 ∷ [];
+    })
+
+-- n times, and then
+abbrev pub times : ℕ → Piece → List Piece → List Piece
+times n p rest = replicate n p ++ rest
+
+-- the pieces of a radial of two bins: azimuth, elevation, width, bins, attributes, count, data
+abbrev pub stripPieces : List Piece → List Piece
+stripPieces rest = as-number 4 ∷ as-unread 4 ∷ as-number 4 ∷ as-number 4 ∷ as-number 4 ∷ as-unread 0 ∷ as-unread 0 ∷ as-number 4 ∷ as-data 8 ∷ rest
+
+pub record Generic : Type 0 where
+  pub two-radials : pictureOf (generic noList twoStrips) ≡ genericPicture
+  pub with-parameters : pictureOf (generic oneParameter twoStrips) ≡ genericPicture
+  -- 65,536 at gate 1 of radial 1
+  pub is-34 : pictureOf (generic noList (four 1 ++ four 0 ++ component 1 noList 2 (strips 2 65536))) ≡ refused (kind 34 (nat 1 ∷ nat 1 ∷ nat 65536 ∷ []))
+  -- radial 1 has three bins and radial 0 two
+  pub is-31 : pictureOf (generic noList (four 1 ++ four 0 ++ component 1 noList 2 (strips 3 0))) ≡ refused (kind 31 (nat 1 ∷ nat 3 ∷ nat 2 ∷ []))
+  -- two components, each walked
+  pub is-28 : pictureOf (generic noList (four 2 ++ four 0 ++ component 1 noList 2 (strips 2 0) ++ four 0 ++ component 1 noList 2 (strips 2 0))) ≡ refused (kind 28 (nat 2 ∷ []))
+  -- the second is of type 2: its refusal comes before the count's
+  pub is-27 : pictureOf (generic noList (four 2 ++ four 0 ++ component 1 noList 2 (strips 2 0) ++ four 0 ++ component 2 noList 2 [])) ≡ refused (kind 27 (nat 2 ∷ []))
+  -- what is read, what is not, and the radials' data: after the divider and the block 12 bytes unread, the code, 2 unread, the payload's
+  -- length; three strings and fifteen words of the product block; no parameters; one component
+  pub read-unread-data : pieces symbology (generic noList twoStrips) 0 ≡
+      as-number 2 ∷ as-number 2 ∷ as-unread 12 ∷ as-number 2 ∷ as-unread 2 ∷ as-number 4
+      ∷ as-number 4 ∷ as-unread 0 ∷ as-unread 0 ∷ as-number 4 ∷ as-unread 0 ∷ as-unread 0
+      ∷ times 3 (as-unread 4)
+      (as-number 4 ∷ as-unread 0 ∷ as-unread 0
+      ∷ times 12 (as-unread 4)
+      (as-number 4 ∷ as-unread 4
+      ∷ as-number 4 ∷ as-unread 4
+      ∷ as-number 4 ∷ as-number 4 ∷ as-unread 0 ∷ as-unread 0 ∷ as-number 4 ∷ as-number 4 ∷ as-number 4 ∷ as-unread 4 ∷ as-number 4
+      ∷ stripPieces (stripPieces [])))

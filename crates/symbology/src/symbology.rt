@@ -1,0 +1,278 @@
+// A symbology body: its packet, the check of all that it holds, and its picture in lent buffers.
+use crate::figures::Figures;
+use crate::figures::FiguresRead;
+use crate::figures::Geometry;
+use crate::figures::Increment;
+use crate::figures::Packet;
+use crate::figures::Room;
+use crate::figures::Terms;
+use crate::radials::HeaderRead;
+use crate::spans::BodyPlan;
+use crate::spans::PlanRead;
+use crate::trailing::Check;
+use bytes::error::Buffer;
+use bytes::error::Level3DecodeError;
+use bytes::error::XdrItem;
+ghost use mathlib.Core.Path.{_≡_};
+ghost use mathlib.Core.Bool.{_&&_, not};
+ghost use Prim.Native.Nat.{_+_, _*_, _≤_};
+ghost use lib.Dec.{eqb};
+ghost use lib.ListN.{length};
+ghost use lib.Seq.{slice};
+ghost use Rattle.bytes.specs.Result.{lent};
+ghost use Rattle.bytes.specs.Reading.{run, Given};
+ghost use Rattle.symbology.specs.Symbology.{Sweep, radialPacket, genericPacket, bodyShort, symbology};
+ghost use Rattle.symbology.specs.Answers.{asked, tooFew, roomIn, admit, pictureOf, decodeFor, decodeOf, figuresIn, figuresOf, checkOf};
+ghost use Rattle.symbology.specs.Walk.{Plots, Plans};
+
+const RADIAL_PACKET_CODE: u16 = 16;
+
+const RLE_PACKET_CODE: u16 = 0xAF1F;
+
+const GENERIC_PACKET_CODE: u16 = 28;
+
+// A packet 16 or AF1F from its header at byte 18 on.
+fn plan_radial_packet(body: &[u8], packet: Packet) -> BodyPlan
+    requires { ⌜ (18 ≤ length (now body)) × (packet ≡ Packet.Packet28 → ⊥) ⌝ }
+    ensures { λ r. ⌜ Plots r (now (body .entry)) (run (radialPacket packet) (now (body .entry)) 18) ⌝ }
+{
+    match crate::radials::read_packet_header(body, packet) {
+        HeaderRead::Refused(error) => BodyPlan::Refused(error),
+        HeaderRead::Value(h) => {
+            let figures = Figures {
+                packet,
+                n_radials: h.n_radials,
+                n_bins: h.n_bins,
+                geometry: Geometry::RangeScale(h.range_scale),
+            };
+            match crate::walks::plan_radials(body, 30, figures) {
+                PlanRead::Refused(error) => BodyPlan::Refused(error),
+                PlanRead::Value {
+                    figures,
+                    at,
+                    next: _,
+                } => BodyPlan::Value {
+                    figures,
+                    from: 0,
+                    to: body.len(),
+                    at,
+                },
+            }
+        }
+    }
+}
+
+// 23: the payload's length is below 0 or over what remains.
+fn is_body_short(size: i32, room: usize) -> bool
+    ensures { λ r. ⌜ r ≡ bodyShort size room ⌝ }
+{
+    if size < 0 {
+        return true;
+    }
+    room < xdr::xdr::at_least_0(size)
+}
+
+// Packet 28 from byte 18 on: 12, 23, and its payload as a part of its own.
+fn plan_generic_packet(body: &[u8]) -> BodyPlan
+    requires { ⌜ 18 ≤ length (now body) ⌝ }
+    ensures { λ r. ⌜ Plots r (now (body .entry)) (run genericPacket (now (body .entry)) 18) ⌝ }
+{
+    let len = body.len();
+    if len < 24 {
+        return BodyPlan::Refused(Level3DecodeError::SymbologyTruncated { len });
+    }
+    let size = bytes::bytes::i32_at(body, 20);
+    let need = xdr::xdr::at_least_0(size);
+    let room = len - 24;
+    if is_body_short(size, room) {
+        return BodyPlan::Refused(Level3DecodeError::XdrTruncated {
+            context: XdrItem::PacketBody,
+            have: room,
+            need,
+        });
+    }
+    let to = 24 + need;
+    match crate::components::read_payload(&body[24..to]) {
+        PlanRead::Refused(error) => BodyPlan::Refused(error),
+        PlanRead::Value {
+            figures,
+            at,
+            next: _,
+        } => BodyPlan::Value {
+            figures,
+            from: 24,
+            to,
+            at,
+        },
+    }
+}
+
+fn is_block_header(divider: u16, block: u16) -> bool
+    ensures { λ r. ⌜ r ≡ (eqb divider 65535 && eqb block 1) ⌝ }
+{
+    if divider != 0xFFFF {
+        return false;
+    }
+    block == 1
+}
+
+// The whole body, checked: 12, 13, 14 and those of the packet.
+fn plan(body: &[u8]) -> BodyPlan
+    ensures { λ r. ⌜ Plots r (now (body .entry)) (run symbology (now (body .entry)) 0) ⌝ }
+{
+    let len = body.len();
+    if len < 18 {
+        return BodyPlan::Refused(Level3DecodeError::SymbologyTruncated { len });
+    }
+    let divider = bytes::bytes::u16_at(body, 0);
+    let block = bytes::bytes::u16_at(body, 2);
+    if !is_block_header(divider, block) {
+        return BodyPlan::Refused(Level3DecodeError::BadSymbologyHeader {
+            divider: bytes::bytes::as_i16(divider),
+            block_id: bytes::bytes::as_i16(block),
+        });
+    }
+    let code = bytes::bytes::u16_at(body, 16);
+    if code == RADIAL_PACKET_CODE {
+        return plan_radial_packet(body, Packet::Packet16);
+    }
+    if code == RLE_PACKET_CODE {
+        return plan_radial_packet(body, Packet::PacketAf1f);
+    }
+    if code == GENERIC_PACKET_CODE {
+        return plan_generic_packet(body);
+    }
+    BodyPlan::Refused(Level3DecodeError::UnsupportedPacketCode {
+        code: bytes::bytes::as_i16(code),
+    })
+}
+
+// The figures of a body that is accepted; nothing is written.
+pub fn check(body: &[u8]) -> FiguresRead
+    ensures { λ r. ⌜ figuresOf r ≡ figuresIn (pictureOf (now (body .entry))) ⌝ }
+{
+    match plan(body) {
+        BodyPlan::Refused(error) => FiguresRead::Refused(error),
+        BodyPlan::Value {
+            figures,
+            from: _,
+            to: _,
+            at: _,
+        } => FiguresRead::Value(figures),
+    }
+}
+
+fn is_asked(terms: Terms, packet: Packet) -> bool
+    ensures { λ r. ⌜ r ≡ asked terms packet ⌝ }
+{
+    match packet {
+        Packet::Packet16 => terms.packet16,
+        Packet::PacketAf1f => terms.packet_af1f,
+        Packet::Packet28 => terms.packet28,
+    }
+}
+
+fn is_room_small(room: Room, n: usize) -> bool
+    ensures { λ r. ⌜ r ≡ tooFew room n ⌝ }
+{
+    match room {
+        Room::Unasked => false,
+        Room::Places(places) => places < n,
+    }
+}
+
+// 36, of the first buffer that is too short.
+fn test_room(terms: Terms, azimuths: usize, codes: usize, n_radials: usize, cells: usize) -> Check
+    ensures { λ r. ⌜ checkOf r ≡ roomIn terms azimuths codes «n_radials» cells ⌝ }
+{
+    if azimuths < n_radials {
+        return Check::Refused(Level3DecodeError::BufferTooShort {
+            buffer: Buffer::Azimuths,
+        });
+    }
+    if codes < cells {
+        return Check::Refused(Level3DecodeError::BufferTooShort {
+            buffer: Buffer::Codes,
+        });
+    }
+    let physical = terms.physical;
+    if is_room_small(physical, cells) {
+        return Check::Refused(Level3DecodeError::BufferTooShort {
+            buffer: Buffer::Physical,
+        });
+    }
+    Check::Passed
+}
+
+// 10, 9, 36.
+fn test_terms(terms: Terms, azimuths: usize, codes: usize, figures: Figures) -> Check
+    requires { ⌜ figures .«n_radials» * figures .«n_bins» ≤ 4000000 ⌝ }
+    ensures { λ r. ⌜ checkOf r ≡ admit terms azimuths codes figures ⌝ }
+{
+    let packet = figures.packet;
+    if !is_asked(terms, packet) {
+        return Check::Refused(Level3DecodeError::SchemeMismatch);
+    }
+    let increment = terms.increment;
+    match increment {
+        Increment::NonPositive(step) => Check::Refused(Level3DecodeError::NonPositiveIncrement(
+            step,
+        )),
+        Increment::Fine => test_room(
+            terms,
+            azimuths,
+            codes,
+            figures.n_radials,
+            figures.n_radials * figures.n_bins,
+        ),
+    }
+}
+
+// The picture of a body on terms: its figures; in the front of the buffers the centres in degrees and the codes by row. A refusal
+// writes nothing.
+pub fn decode_for(body: &[u8], terms: Terms, azimuths: &mut [f64], codes: &mut [u16]) -> FiguresRead
+    ensures { λ r. ⌜ figuresOf r ≡ figuresIn (decodeFor terms (now (body .entry)) (length (now (azimuths .entry))) (length (now (codes .entry)))) ⌝ }
+    ensures { λ _. ⌜ now (azimuths .exit) ≡ lent (decodeFor terms (now (body .entry)) (length (now (azimuths .entry))) (length (now (codes .entry)))) (λ p. p .azimuths) (now (azimuths .entry)) ⌝ }
+    ensures { λ _. ⌜ now (codes .exit) ≡ lent (decodeFor terms (now (body .entry)) (length (now (azimuths .entry))) (length (now (codes .entry)))) (λ p. p .codes) (now (codes .entry)) ⌝ }
+{
+    match plan(body) {
+        BodyPlan::Refused(error) => FiguresRead::Refused(error),
+        BodyPlan::Value {
+            figures,
+            from,
+            to,
+            at,
+        } => match test_terms(terms, azimuths.len(), codes.len(), figures) {
+            Check::Refused(error) => FiguresRead::Refused(error),
+            Check::Passed => {
+                let packet = figures.packet;
+                crate::walks::write_radials(
+                    packet,
+                    &body[from..to],
+                    at,
+                    figures.n_radials,
+                    figures.n_bins,
+                    azimuths,
+                    codes,
+                );
+                FiguresRead::Value(figures)
+            }
+        },
+    }
+}
+
+// The same of any packet.
+pub fn decode_symbology(body: &[u8], azimuths: &mut [f64], codes: &mut [u16]) -> FiguresRead
+    ensures { λ r. ⌜ figuresOf r ≡ figuresIn (decodeOf (now (body .entry)) (length (now (azimuths .entry))) (length (now (codes .entry)))) ⌝ }
+    ensures { λ _. ⌜ now (azimuths .exit) ≡ lent (decodeOf (now (body .entry)) (length (now (azimuths .entry))) (length (now (codes .entry)))) (λ p. p .azimuths) (now (azimuths .entry)) ⌝ }
+    ensures { λ _. ⌜ now (codes .exit) ≡ lent (decodeOf (now (body .entry)) (length (now (azimuths .entry))) (length (now (codes .entry)))) (λ p. p .codes) (now (codes .entry)) ⌝ }
+{
+    let terms = Terms {
+        packet16: true,
+        packet_af1f: true,
+        packet28: true,
+        increment: Increment::Fine,
+        physical: Room::Unasked,
+    };
+    decode_for(body, terms, azimuths, codes)
+}
