@@ -21,15 +21,16 @@ use Rattle.bytes.proofs.Readings.{part-slice, past-test}
 use Rattle.bytes.proofs.Runs.{then-then, Plain, plain-then, plain-by, plain-give, plain-check, plain-remaining, plain-u16, plain-unread, run-passed, run-halted, shifted, run-within}
 use Rattle.xdr.specs.Xdr.{atLeast0}
 use Rattle.symbology.specs.Symbology.{Sweep, Header, frame, radial, radialWalk, firstBin, isEmpty, overBody, packetHeader, radialPacket, payload, bodyShort, genericPacket, packetOf, symbology}
-use Rattle.symbology.specs.Walk.{beamSpan, anyFrame, anyRadial, anyWalk, firstOf, sweepFrom, Planned, Plotted, Plots}
+use Rattle.symbology.specs.Walk.{beamSpan, anyFrame, anyRadial, anyWalk, firstOf, sweepFrom, Planned, Plotted, Plots, inPart, Plans}
 use Rattle.symbology.proofs.Beams.{header-is}
 use Rattle.symbology.proofs.Integers.{signed-low, signed-high, u32-small}
 use Rattle.symbology.proofs.Strips28.{sweep-run}
 use Rattle.symbology.specs.declared.figures.Figures.{Figures}
+use Rattle.symbology.specs.declared.spans.PlanRead.{PlanRead}
+use Rattle.symbology.specs.declared.spans.PlanRead.the-variants as PlanRead
 use Rattle.symbology.specs.declared.figures.Packet.{Packet}
 use Rattle.symbology.specs.declared.figures.Packet.the-variants.{Packet16, PacketAf1f, Packet28}
 use Rattle.symbology.specs.declared.figures.Geometry.the-variants.{RangeScale}
-use Rattle.symbology.specs.declared.spans.PlanRead.the-variants as PlanRead
 use Rattle.symbology.specs.declared.spans.BodyPlan.{BodyPlan}
 
 -- ---- plans
@@ -124,7 +125,7 @@ module _ (packet : Packet) (s : List ℕ) (old : packet ≡ Packet28 → ⊥) wh
     unfolding u16At
     radial-small bytes = (omega (arith, headed .radials-are, bytes 28, bytes 29), headed .cells)
 
-    pub radial-run : run (radialPacket packet) s 18 ≡ sweepFrom (figuresOf packet h) (run (anyWalk packet (h .radials) (h .bins) (h .radials) 0) s 30)
+    radial-run : run (radialPacket packet) s 18 ≡ sweepFrom (figuresOf packet h) (run (anyWalk packet (h .radials) (h .bins) (h .radials) 0) s 30)
     unfolding radialPacket
     radial-run =
         run-passed _ (packetHeader packet) (plain-header packet) s 18 (headed .ends)
@@ -132,13 +133,19 @@ module _ (packet : Packet) (s : List ℕ) (old : packet ≡ Packet28 → ⊥) wh
         ∙ sweep-run (Unit {0}) (figuresOf packet h) (anyWalk packet (h .radials) (h .bins) (h .radials) 0) s 30
 
     -- the part that holds the radials is the whole body
-    pub radial-plotted : {f : Figures} {at next : ℕ}
+    radial-plotted : {f : Figures} {at next : ℕ}
         → Planned f at next s (sweepFrom (figuresOf packet h) (run (anyWalk packet (h .radials) (h .bins) (h .radials) 0) s 30))
         → Plotted f 0 (length s) at s (run (radialPacket packet) s 18)
     radial-plotted {f} {at} {next} p =
         let q : Planned f at next (slice 0 (length s) s) (sweepFrom (figuresOf packet h) (run (anyWalk packet (h .radials) (h .bins) (h .radials) 0) s 30)) =
         rw (take-length s) p in
         plotted q (q .radials .next) (omega arith) (omega arith) (radial-run ∙ q .whole)
+
+    pub radial-plots : (r : PlanRead) → Plans r s (sweepFrom (figuresOf packet h) (run (anyWalk packet (h .radials) (h .bins) (h .radials) 0) s 30))
+        → Plots (inPart 0 (length s) r) s (run (radialPacket packet) s 18)
+    unfolding Plans Plots
+    radial-plots (PlanRead.Value f at next) k = radial-plotted k
+    radial-plots (PlanRead.Refused e) k = k ∙ sym radial-run
 
 -- ---- packet 28
 
@@ -198,16 +205,22 @@ module _ (s : List ℕ) where
         part-is : take (24 + need - 24) (drop 24 s) ≡ slice 24 (24 + need) s
         part-is = part-slice s 24 (24 + need) (omega arith)
 
-        pub generic-refused : {x : Refusal} → refused x ≡ run payload (take (24 + need - 24) (drop 24 s)) 0 → refused x ≡ run genericPacket s 18
+        generic-refused : {x : Refusal} → refused x ≡ run payload (take (24 + need - 24) (drop 24 s)) 0 → refused x ≡ run genericPacket s 18
         unfolding shifted
         generic-refused h = ap (shifted 24) (h ∙ ap (λ l. run payload l 0) part-is) ∙ sym generic-run
 
-        pub generic-plotted : {f : Figures} {at next : ℕ} → Planned f at next (take (24 + need - 24) (drop 24 s)) (run payload (take (24 + need - 24) (drop 24 s)) 0)
+        generic-plotted : {f : Figures} {at next : ℕ} → Planned f at next (take (24 + need - 24) (drop 24 s)) (run payload (take (24 + need - 24) (drop 24 s)) 0)
             → Plotted f 24 (24 + need) at s (run genericPacket s 18)
         unfolding shifted
         generic-plotted {f} {at} {next} p =
             let q : Planned f at next (slice 24 (24 + need) s) (run payload (slice 24 (24 + need) s) 0) = rw part-is at p in
             plotted q (24 + q .radials .next) (omega arith) generic-inside (generic-run ∙ ap (shifted 24) (q .whole))
+
+        pub generic-plots : (r : PlanRead) → Plans r (take (24 + need - 24) (drop 24 s)) (run payload (take (24 + need - 24) (drop 24 s)) 0)
+            → Plots (inPart 24 (24 + need) r) s (run genericPacket s 18)
+        unfolding Plans Plots
+        generic-plots (PlanRead.Value f at next) k = generic-plotted k
+        generic-plots (PlanRead.Refused e) k = generic-refused k
 
 -- ---- the body
 

@@ -213,3 +213,7 @@ pub record Plotted (figures : Figures) (from to at : ℕ) (body : List ℕ) (R :
 unfoldable pub Plots : BodyPlan → List ℕ → Result (Given Sweep) → Type 0
 Plots (BodyPlan.Value f from to at) body R = Plotted f from to at body R
 Plots (BodyPlan.Refused e) body R = refused (refusalOf e) ≡ R
+
+abbrev pub inPart : ℕ → ℕ → PlanRead → BodyPlan
+inPart from to (PlanRead.Value f at next) = BodyPlan.Value f from to at
+inPart from to (PlanRead.Refused e) = BodyPlan.Refused e

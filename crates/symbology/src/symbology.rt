@@ -23,13 +23,32 @@ ghost use Rattle.bytes.specs.Result.{lent};
 ghost use Rattle.bytes.specs.Reading.{run, Given};
 ghost use Rattle.symbology.specs.Symbology.{Sweep, radialPacket, genericPacket, bodyShort, symbology};
 ghost use Rattle.symbology.specs.Answers.{asked, tooFew, roomIn, admit, pictureOf, decodeFor, decodeOf, figuresIn, figuresOf, checkOf};
-ghost use Rattle.symbology.specs.Walk.{Plots, Plans};
+ghost use Rattle.symbology.specs.Walk.{inPart, Plots};
 
 const RADIAL_PACKET_CODE: u16 = 16;
 
 const RLE_PACKET_CODE: u16 = 0xAF1F;
 
 const GENERIC_PACKET_CODE: u16 = 28;
+
+// A plan of the body's part from..to.
+fn in_part(plan: PlanRead, from: usize, to: usize) -> BodyPlan
+    ensures { λ r. ⌜ r ≡ inPart from to plan ⌝ }
+{
+    match plan {
+        PlanRead::Refused(error) => BodyPlan::Refused(error),
+        PlanRead::Value {
+            figures,
+            at,
+            next: _,
+        } => BodyPlan::Value {
+            figures,
+            from,
+            to,
+            at,
+        },
+    }
+}
 
 // A packet 16 or AF1F from its header at byte 18 on.
 fn plan_radial_packet(body: &[u8], packet: Packet) -> BodyPlan
@@ -45,19 +64,7 @@ fn plan_radial_packet(body: &[u8], packet: Packet) -> BodyPlan
                 n_bins: h.n_bins,
                 geometry: Geometry::RangeScale(h.range_scale),
             };
-            match crate::walks::plan_radials(body, 30, figures) {
-                PlanRead::Refused(error) => BodyPlan::Refused(error),
-                PlanRead::Value {
-                    figures,
-                    at,
-                    next: _,
-                } => BodyPlan::Value {
-                    figures,
-                    from: 0,
-                    to: body.len(),
-                    at,
-                },
-            }
+            in_part(crate::walks::plan_radials(body, 30, figures), 0, body.len())
         }
     }
 }
@@ -92,19 +99,7 @@ fn plan_generic_packet(body: &[u8]) -> BodyPlan
         });
     }
     let to = 24 + need;
-    match crate::components::read_payload(&body[24..to]) {
-        PlanRead::Refused(error) => BodyPlan::Refused(error),
-        PlanRead::Value {
-            figures,
-            at,
-            next: _,
-        } => BodyPlan::Value {
-            figures,
-            from: 24,
-            to,
-            at,
-        },
-    }
+    in_part(crate::components::read_payload(&body[24..to]), 24, to)
 }
 
 fn is_block_header(divider: u16, block: u16) -> bool

@@ -1,9 +1,8 @@
-use Rattle.symbology.proofs.Payload.{plan-error, plan-told}
-use Rattle.symbology.proofs.Bodies.{generic-cut, generic-short, generic-inside, generic-refused, generic-plotted}
-use Rattle.symbology.specs.Walk.{Plots}
-use mir.Facts.{toZ-ofZ}
 use mir.Syntax.{w32}
+use mir.Facts.{toZ-ofZ}
 use mathlib.Core.Path.{_∙_}
+use Rattle.symbology.specs.Walk.{Plots}
+use Rattle.symbology.proofs.Bodies.{generic-cut, generic-short, generic-inside, generic-plots}
 use borrow.Author.Needs.{needs}
 use Rattle.symbology.proofs.symbology.plan_generic_packet.Statement.{statement}
 use Rattle.symbology.proofs.symbology.plan_generic_packet.Tie as tie
@@ -40,19 +39,12 @@ part-read-payload-end c = generic-inside _ (c .before .before .before .before .i
 read-payload-requires : tie.Need-read-payload-requires
 read-payload-requires c κs = search needs
 
-enum-known-error : tie.Need-enum-known-error
-enum-known-error c = search needs
-
-enum-known-figures : tie.Need-enum-known-figures
-enum-known-figures c = search needs
+in-part-requires : tie.Need-in-part-requires
+in-part-requires c κs = search needs
 
 returns-3 : tie.Need-returns-3
-unfolding Plots
-returns-3 c = generic-refused _ (c .before .before .before .before .before .before .before .before .before .if1 .left) (toZ-ofZ {w = w32} {z = c .before .before .before .before .before .before .before .before .i32-at .result} (search needs) ∙ c .before .before .before .before .before .before .before .before .i32-at .ensures) (c .before .before .before .before .before .before .before .at-least-0 .ensures .0) (c .before .before .before .before .before .before .is-body-short .ensures) (c .before .before .before .before .before .if2 .left) (c .before .before .before .before .before .before .before .before .before .before .shared-slice-known .given) (plan-error _ (c .before .error .given .1) (c .before .before .before .read-payload .ensures))
-
-returns-4 : tie.Need-returns-4
-unfolding Plots
-returns-4 c = generic-plotted _ (c .before .before .before .before .before .before .before .before .before .if1 .left) (toZ-ofZ {w = w32} {z = c .before .before .before .before .before .before .before .before .i32-at .result} (search needs) ∙ c .before .before .before .before .before .before .before .before .i32-at .ensures) (c .before .before .before .before .before .before .before .at-least-0 .ensures .0) (c .before .before .before .before .before .before .is-body-short .ensures) (c .before .before .before .before .before .if2 .left) (c .before .before .before .before .before .before .before .before .before .before .shared-slice-known .given) (plan-told _ (c .before .figures .given .1) (c .before .before .before .read-payload .ensures))
+returns-3 c = rw (c .in-part .ensures)
+    (generic-plots _ (c .before .before .before .before .before .before .before .if1 .left) (toZ-ofZ {w = w32} {z = c .before .before .before .before .before .before .i32-at .result} (search needs) ∙ c .before .before .before .before .before .before .i32-at .ensures) (c .before .before .before .before .before .at-least-0 .ensures .0) (c .before .before .before .before .is-body-short .ensures) (c .before .before .before .if2 .left) (c .before .before .before .before .before .before .before .before .shared-slice-known .given) _ (c .before .read-payload .ensures))
 
 pub plan-generic-packet-spec : {M : Type 1} → statement M
 plan-generic-packet-spec =
@@ -68,7 +60,5 @@ plan-generic-packet-spec =
     part-read-payload-start
     part-read-payload-end
     read-payload-requires
-    enum-known-error
-    enum-known-figures
-    returns-3
-    returns-4)
+    in-part-requires
+    returns-3)
