@@ -1,10 +1,10 @@
 use Rattle.bytes.specs.Float.{f32}
-use lib.Ieee.{ofBits}
+use lib.Ieee.{le, ofBits}
 use Rattle.scale.proofs.scaling.linear_declared_scale.Statement.{statement}
 use Rattle.scale.proofs.scaling.linear_declared_scale.Tie as tie
 
 returns : tie.Need-returns
-unfolding ofBits f32
+unfolding ofBits f32 le
 returns c = simp (c .if1 .taken)
 
 returns-2 : tie.Need-returns-2
