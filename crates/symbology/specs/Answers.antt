@@ -4,7 +4,7 @@ use mathlib.Core.List.{List, [], _∷_, _++_}
 use mathlib.Core.Bool.{Bool, true, false, not}
 use lib.Dec.{ltb}
 use lib.Ieee.{Float}
-use Rattle.bytes.specs.Refusal.{kind, float, buffer, refusalOf}
+use Rattle.bytes.specs.Refusal.{kind, buffer, refusalOf}
 use Rattle.bytes.specs.Result.{Result, accepted, refused, refuse, then}
 use Rattle.bytes.specs.Reading.{run}
 use Rattle.bytes.specs.declared.error.Buffer.the-variants as Buffer
@@ -13,8 +13,6 @@ use Rattle.symbology.specs.declared.figures.Figures.{Figures}
 use Rattle.symbology.specs.declared.figures.Packet.{Packet}
 use Rattle.symbology.specs.declared.figures.Packet.the-variants.{Packet16, PacketAf1f, Packet28}
 use Rattle.symbology.specs.declared.figures.Terms.{Terms}
-use Rattle.symbology.specs.declared.figures.Increment.{Increment}
-use Rattle.symbology.specs.declared.figures.Increment.the-variants as Increment
 use Rattle.symbology.specs.declared.figures.Room.{Room}
 use Rattle.symbology.specs.declared.figures.Room.the-variants as Room
 use Rattle.symbology.specs.declared.figures.FiguresRead.{FiguresRead}
@@ -53,10 +51,6 @@ asked t Packet16 = t .packet16
 asked t PacketAf1f = t .«packet_af1f»
 asked t Packet28 = t .packet28
 
-unfoldable pub stepTest : {A : Type 0} → Increment → Result A → Result A
-stepTest Increment.Fine r = r
-stepTest (Increment.NonPositive x) r = refused (kind 9 (float x ∷ []))
-
 unfoldable pub tooFew : Room → ℕ → Bool
 tooFew Room.Unasked n = false
 tooFew (Room.Places k) n = ltb k n
@@ -69,12 +63,13 @@ roomIn t na nc radials cells =
     (refuse (tooFew (t .physical) cells) (kind 36 (buffer Buffer.Physical ∷ []))
     (accepted tt)))
 
--- What stands between a body's reading and its picture: 10 for a packet that is not asked for, 9, 36. No row is looked at.
+-- What stands between a body's reading and its picture: 10 for a packet that is not asked for, the caller's check of the scale (9), 36.
+-- No row is looked at.
 unfoldable pub admit : Terms → ℕ → ℕ → Figures → Result (Unit {0})
 admit t na nc f =
     refuse (not (asked t (f .packet))) (kind 10 [])
-    (stepTest (t .increment)
-    (roomIn t na nc (f .«n_radials») (f .«n_radials» * f .«n_bins»)))
+    (then (checkOf (t .scale)) λ _.
+    roomIn t na nc (f .«n_radials») (f .«n_radials» * f .«n_bins»))
 
 -- the reading of a body on terms
 unfoldable pub decodeFor : Terms → List ℕ → ℕ → ℕ → Result Picture
@@ -85,7 +80,7 @@ decodeFor t body na nc =
 
 -- every packet, and no more than the two buffers
 abbrev pub anyTerms : Terms
-anyTerms = record { packet16 = true; «packet_af1f» = true; packet28 = true; increment = Increment.Fine; physical = Room.Unasked }
+anyTerms = record { packet16 = true; «packet_af1f» = true; packet28 = true; scale = Check.Passed; physical = Room.Unasked }
 
 unfoldable pub decodeOf : List ℕ → ℕ → ℕ → Result Picture
 decodeOf = decodeFor anyTerms

@@ -1,4 +1,5 @@
 // What an accepted body gives beside its rows.
+use crate::trailing::Check;
 use bytes::error::Level3DecodeError;
 
 pub enum Packet {
@@ -28,19 +29,14 @@ pub enum FiguresRead {
     Refused(Level3DecodeError),
 }
 
-// What a caller asks of a body before anything is written: the packets that it can use, a step that is positive, room for the physical
-// values.
+// What a caller asks of a body before anything is written: the packets that it can use, its own check of the scale, room for the
+// physical values.
 pub struct Terms {
     pub packet16: bool,
     pub packet_af1f: bool,
     pub packet28: bool,
-    pub increment: Increment,
+    pub scale: Check,
     pub physical: Room,
-}
-
-pub enum Increment {
-    Fine,
-    NonPositive(f32),
 }
 
 pub enum Room {

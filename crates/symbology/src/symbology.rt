@@ -2,7 +2,6 @@
 use crate::figures::Figures;
 use crate::figures::FiguresRead;
 use crate::figures::Geometry;
-use crate::figures::Increment;
 use crate::figures::Packet;
 use crate::figures::Room;
 use crate::figures::Terms;
@@ -208,12 +207,10 @@ fn test_terms(terms: Terms, azimuths: usize, codes: usize, figures: Figures) -> 
     if !is_asked(terms, packet) {
         return Check::Refused(Level3DecodeError::SchemeMismatch);
     }
-    let increment = terms.increment;
-    match increment {
-        Increment::NonPositive(step) => Check::Refused(Level3DecodeError::NonPositiveIncrement(
-            step,
-        )),
-        Increment::Fine => test_room(
+    let scale = terms.scale;
+    match scale {
+        Check::Refused(error) => Check::Refused(error),
+        Check::Passed => test_room(
             terms,
             azimuths,
             codes,
@@ -266,7 +263,7 @@ pub fn decode_symbology(body: &[u8], azimuths: &mut [f64], codes: &mut [u16]) ->
         packet16: true,
         packet_af1f: true,
         packet28: true,
-        increment: Increment::Fine,
+        scale: Check::Passed,
         physical: Room::Unasked,
     };
     decode_for(body, terms, azimuths, codes)

@@ -1,5 +1,5 @@
 use Rattle.symbology.proofs.Decode.{admit-fine}
-use Rattle.symbology.specs.Answers.{admit, stepTest}
+use Rattle.symbology.specs.Answers.{admit}
 use borrow.Author.Needs.{needs}
 use Rattle.symbology.proofs.symbology.test_terms.Statement.{statement}
 use Rattle.symbology.proofs.symbology.test_terms.Tie as tie
@@ -11,8 +11,8 @@ returns : tie.Need-returns
 unfolding admit
 returns c = rw (← c .before .is-asked .ensures) (simp (c .if1 .taken))
 
-enum-known-increment : tie.Need-enum-known-increment
-enum-known-increment c = search needs
+enum-known-scale : tie.Need-enum-known-scale
+enum-known-scale c = search needs
 
 enum-told : tie.Need-enum-told
 enum-told c = search needs
@@ -24,8 +24,8 @@ test-room-requires : tie.Need-test-room-requires
 test-room-requires c κs = search needs
 
 returns-2 : tie.Need-returns-2
-unfolding admit stepTest
-returns-2 c = rw (← c .before .before .before .before .is-asked .ensures, c .before .increment .given .1) (simp (c .before .before .before .if1 .left))
+unfolding admit
+returns-2 c = rw (← c .before .before .before .before .is-asked .ensures, c .before .scale .given .1) (simp (c .before .before .before .if1 .left))
 
 returns-3 : tie.Need-returns-3
 returns-3 c = admit-fine _ _ _ _ (c .before .before .before .before .before .is-asked .ensures) (c .before .before .before .before .if1 .left) (c .before .before .enum-told .given .1) (c .test-room .ensures)
@@ -36,7 +36,7 @@ test-terms-spec =
     (tie.spec
     is-asked-requires
     returns
-    enum-known-increment
+    enum-known-scale
     enum-told
     mul-test-room
     test-room-requires
