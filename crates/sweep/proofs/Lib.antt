@@ -4,6 +4,7 @@ pub mod Parts
 pub mod Lowest
 pub mod Demand3
 pub mod TwoRuns
+pub mod CodeRuns
 pub mod InWords
 pub mod Table
 pub mod Timed
