@@ -1,3 +1,4 @@
+pub mod Order
 pub mod RowLaws
 pub mod Centres
 pub mod Parts
