@@ -150,15 +150,12 @@ pub fn class_int_physical(code: u16) -> f32
     }
 }
 
-// The level of a code, of the sixteen there are.
+// The level of a code, of the sixteen there are. A level is read at every code, so that nothing but the value depends on the test.
 fn level_of(levels: &[f32; 16], code: u16) -> f32
     ensures { λ r. ⌜ r ≡ levelOf (now (levels .entry)) code ⌝ }
 {
-    if code < 16 {
-        levels[code as usize]
-    } else {
-        bytes::float::nan32()
-    }
+    let level = levels[(code % 16) as usize];
+    if code < 16 { level } else { bytes::float::nan32() }
 }
 
 fn fill_open(min: f32, step: f32, floor: u16, codes: &[u16], physical: &mut [f32])
