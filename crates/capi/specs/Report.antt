@@ -93,7 +93,7 @@ saying f (said a) = said (f a)
 saying f (failed n) = failed n
 
 -- the thing with the number n, from 0; 101 where there is none
-abbrev pub choice : {A : Type 0} → ℕ → List A → Said A
+unfoldable pub choice : {A : Type 0} → ℕ → List A → Said A
 choice n [] = failed 101
 choice zero (a ∷ rest) = said a
 choice (suc n) (a ∷ rest) = choice n rest
@@ -132,3 +132,15 @@ pub record Leaves (s : Said Report) (number : ℕ) (ints ints' : List ℕ) (floa
 abbrev pub lentBy : {A B : Type 0} → Said (Result A) → (A → List B) → List B → List B
 lentBy (said r) new old = lent r new old
 lentBy (failed n) new old = old
+
+-- ---- an entry without a report
+
+-- 0, or the number with which it fails
+abbrev pub plainNumber : {A : Type 0} → Said A → ℕ
+plainNumber (said a) = 0
+plainNumber (failed n) = n
+
+-- what it has to say is laid over a lent buffer
+abbrev pub plainAfter : {A : Type 0} → Said (List A) → List A → List A
+plainAfter (said xs) old = over xs old
+plainAfter (failed n) old = old

@@ -2,19 +2,13 @@ use mathlib.Core.Path.{sym, _∙_}
 use borrow.Author.Needs.{needs}
 use Rattle.capi.proofs.report.bad_argument.Statement.{statement}
 use Rattle.capi.proofs.report.bad_argument.Tie as tie
-use Rattle.capi.proofs.report.bad_argument.Reads as reads
-use Rattle.capi.proofs.report.bad_argument.Lts as lts
-use Rattle.capi.proofs.report.is_short.Reads as is-short-reads
 
--- src/report.rt:154:8
 is-short-requires : tie.Need-is-short-requires
 is-short-requires c κs = search needs
 
--- src/report.rt:155:9
 returns : tie.Need-returns
 returns c = simp (sym (c .before .is-short .ensures) ∙ c .if1 .taken)
 
--- src/report.rt:151:1
 returns-2 : tie.Need-returns-2
 returns-2 c = simp (sym (c .before .is-short .ensures) ∙ c .if1 .left)
 

@@ -4,19 +4,13 @@ use mathlib.Core.Path.{_∙_, ap}
 use borrow.Author.Needs.{needs}
 use Rattle.capi.proofs.report.word_of_half.Statement.{statement}
 use Rattle.capi.proofs.report.word_of_half.Tie as tie
-use Rattle.capi.proofs.report.word_of_half.Reads as reads
-use Rattle.capi.proofs.report.word_of_half.Lts as lts
-use Rattle.capi.proofs.report.word_of.Reads as word-of-reads
 
--- src/report.rt:31:13
 cast-word-of : tie.Need-cast-word-of
 cast-word-of c = widens (c .fits .x)
 
--- src/report.rt:31:5
 word-of-requires : tie.Need-word-of-requires
 word-of-requires c κs = search needs
 
--- src/report.rt:28:1
 returns : tie.Need-returns
 returns c = c .word-of .ensures ∙ ap word (widened (c .before .fits .x))
 

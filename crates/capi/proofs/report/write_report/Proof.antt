@@ -5,51 +5,37 @@ use Rattle.capi.proofs.Reports.{none-left, room, all-left}
 use borrow.Author.Needs.{needs}
 use Rattle.capi.proofs.report.write_report.Statement.{statement}
 use Rattle.capi.proofs.report.write_report.Tie as tie
-use Rattle.capi.proofs.report.write_report.Reads as reads
-use Rattle.capi.proofs.report.write_report.Lts as lts
-use Rattle.capi.proofs.copies.copy_f64.Reads as copy-f64-reads
-use Rattle.capi.proofs.copies.copy_u64.Reads as copy-u64-reads
-use Rattle.capi.proofs.report.is_short.Reads as is-short-reads
 
--- src/report.rt:164:8
 is-short-requires : tie.Need-is-short-requires
 is-short-requires c κs = search needs
 
--- src/report.rt:165:9
 returns : tie.Need-returns
 returns c = none-left _ (sym (c .before .is-short .ensures) ∙ c .if1 .taken)
 
--- src/report.rt:169:29
 slice-aggregate-copy-u64 : tie.Need-slice-aggregate-copy-u64
 slice-aggregate-copy-u64 c = search needs
 
--- src/report.rt:169:5
 copy-u64-requires : tie.Need-copy-u64-requires
 copy-u64-requires c κs =
     let k = room (length (c .before .before .before .before .before .before .before .before .args .ints .now)) (length (c .before .before .before .before .before .before .before .before .args .floats .now)) (sym (c .before .before .before .before .before .is-short .ensures) ∙ c .before .before .before .before .if1 .left) in
     let l : length (c .before .before .before .before .before .before .before .before .args .report .ints) ≡ 16 = search needs in
     omega arith
 
--- src/report.rt:170:29
 slice-aggregate-copy-f64 : tie.Need-slice-aggregate-copy-f64
 slice-aggregate-copy-f64 c = search needs
 
--- src/report.rt:170:5
 copy-f64-requires : tie.Need-copy-f64-requires
 copy-f64-requires c κs =
     let k = room (length (c .before .before .before .before .before .before .before .before .before .before .before .before .before .args .ints .now)) (length (c .before .before .before .before .before .before .before .before .before .before .before .before .before .args .floats .now)) (sym (c .before .before .before .before .before .before .before .before .before .before .is-short .ensures) ∙ c .before .before .before .before .before .before .before .before .before .if1 .left) in
     let l : length (c .before .before .before .before .before .before .before .before .before .before .before .before .before .args .report .floats) ≡ 8 = search needs in
     omega arith
 
--- src/report.rt:161:1
 same-length : tie.Need-same-length
 same-length c = search needs
 
--- src/report.rt:161:1
 same-length-2 : tie.Need-same-length-2
 same-length-2 c = search needs
 
--- src/report.rt:161:1
 returns-2 : tie.Need-returns-2
 returns-2 c = all-left _ (sym (c .before .before .before .before .before .before .before .before .before .before .before .before .before .is-short .ensures) ∙ c .before .before .before .before .before .before .before .before .before .before .before .before .if1 .left) (c .before .before .before .before .before .before .before .copy-u64 .ensures) (c .before .before .copy-f64 .ensures)
 

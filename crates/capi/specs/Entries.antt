@@ -1,0 +1,45 @@
+-- What the entries that take a kind, an item or an exact length have to say.
+use Prim.Native.Nat.{ℕ}
+use mathlib.Core.List.{List, [], _∷_}
+use mathlib.Core.Bool.{cond, _&&_}
+use lib.ListN.{length}
+use lib.Dec.{eqb}
+use lib.Ieee.{Float}
+use Rattle.bytes.specs.Reading.{walk}
+use Rattle.bytes.specs.Result.{Result}
+use Rattle.bytes.specs.Products.{codes}
+use Rattle.head.specs.Pdb.{hwI16, hwU16, hwI32, hwPair}
+use Rattle.scale.specs.Pdb.{thresholdPlace}
+use Rattle.scale.specs.Legacy.{levelsOf}
+use Rattle.xdr.specs.Xdr as Xdr
+use Rattle.xdr.specs.Answers.{done, stringPart, arrayPart}
+use Rattle.capi.specs.declared.report.Report.{Report}
+use Rattle.capi.specs.Report.{reportOf, endedReport, Said, said, failed, choice}
+use Rattle.capi.specs.Places.{nothing, number, signedNumber, float, pair, part}
+
+-- a field, by its kind: i16, u16, i32, a pair of f32
+abbrev pub fieldSaid : List ℕ → ℕ → ℕ → ℕ → Said Report
+fieldSaid file block index kind =
+    choice kind
+    (reportOf signedNumber (hwI16 file block index) ∷ reportOf number (hwU16 file block index)
+    ∷ reportOf signedNumber (hwI32 file block index) ∷ reportOf pair (hwPair file block index) ∷ [])
+
+-- an XDR item, by its number: int, uint, float, string, array of integers, list of parameters
+abbrev pub xdrSaid : ℕ → List ℕ → ℕ → Said Report
+xdrSaid op s at =
+    choice op
+    (endedReport signedNumber (walk Xdr.int s at) ∷ endedReport number (walk Xdr.uint s at) ∷ endedReport float (walk Xdr.float s at)
+    ∷ endedReport part (stringPart s at (walk Xdr.string s at)) ∷ endedReport part (arrayPart at (walk Xdr.intArray s at))
+    ∷ endedReport nothing (done (walk (Xdr.counted Xdr.parameter) s at)) ∷ [])
+
+-- the thresholds' place, for a buffer of n bytes, which has to be 32
+unfoldable pub thresholdSaid : List ℕ → ℕ → ℕ → Said (Result ℕ)
+thresholdSaid file block n = cond (eqb n 32) (said (thresholdPlace file block)) (failed 101)
+
+-- the sixteen levels of 32 bytes, for a buffer of n places
+unfoldable pub levelsSaid : List ℕ → Float → ℕ → Said (List Float)
+levelsSaid bytes post n = cond (eqb (length bytes) 32 && eqb n 16) (said (levelsOf bytes 0 post)) (failed 101)
+
+-- the known codes, for a buffer of n places
+unfoldable pub codesSaid : ℕ → Said (List ℕ)
+codesSaid n = cond (eqb n 26) (said codes) (failed 101)
