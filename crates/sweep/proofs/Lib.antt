@@ -1,0 +1,10 @@
+pub mod RowLaws
+pub mod Centres
+pub mod Parts
+pub mod Lowest
+pub mod Demand3
+pub mod TwoRuns
+pub mod InWords
+pub mod Table
+pub mod Timed
+pub mod Reading

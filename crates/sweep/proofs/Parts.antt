@@ -1,0 +1,115 @@
+-- An accepted sweep: the head, the body and the picture that it came from, and how many places it fills. Assumes nothing.
+use Prim.Native.Nat.{ℕ, _+_, _*_}
+use native.Mathlib.Omega.{arith}
+use mathlib.Core.List.{List, map}
+use mathlib.Core.Bool.{Bool, true, false, not}
+use mathlib.Core.Path.{_≡_, refl, sym, ap, _∙_, subst}
+use lib.ListN.{length, length-map}
+use lib.Ieee.{Float}
+use Rattle.bytes.specs.Refusal.{Refusal}
+use Rattle.bytes.specs.Result.{Result, accepted, refused, refuse, then}
+use Rattle.bytes.specs.Reading.{Given, run}
+use Rattle.head.specs.Header.{token, messageHeader, scanTime}
+use Rattle.head.specs.Pdb.{pdbFields}
+use Rattle.scale.specs.Physical.{scaleFields, declaredScale, physicalOf}
+use Rattle.scale.specs.declared.physical.Scheme.{Scheme}
+use Rattle.symbology.specs.declared.figures.Figures.{Figures}
+use Rattle.symbology.specs.Answers.{joined, Picture, pictureOf}
+use Rattle.symbology.specs.Symbology as Symbology
+use Rattle.symbology.specs.Symbology.{symbology}
+use Rattle.sweep.specs.declared.plan.Head.{Head}
+use Rattle.sweep.specs.Sweep.{headOf, allowed, roomFor, Accepted, finish, sweepOf}
+use Rattle.sweep.proofs.RowLaws.{codes-long}
+use Rattle.sweep.proofs.Centres.{centred}
+
+-- a refusal is no acceptance
+pub clash : {A B : Type 0} (a : A) (x : Refusal) → _≡_ {A = Result A} (refused x) (accepted a) → B
+clash a x h = absurd (let z : _≡_ {A = ℕ} 0 1 = cc in omega arith)
+
+pub one-value : {A : Type 0} {a b : A} → _≡_ {A = Result A} (accepted a) (accepted b) → a ≡ b
+one-value h = cc
+
+-- what was accepted came through each step
+module _ {A B C : Type 0} where
+  pub through : (r : Result A) (f : A → Result B) (b : B) → then r f ≡ accepted b → ((a : A) → r ≡ accepted a → f a ≡ accepted b → C) → C
+  through (accepted a) f b h k = k a refl h
+  through (refused x) f b h k = clash b x h
+
+pub passed : {A C : Type 0} (t : Bool) (x : Refusal) (r : Result A) (a : A) → refuse t x r ≡ accepted a → (t ≡ false → r ≡ accepted a → C) → C
+passed true x r a h k = clash a x h
+passed false x r a h k = k refl h
+
+-- the block starts at message header + 18, and the scale fields are read from there
+pub block-start : (scheme : Scheme) (file : List ℕ) (clock : ℕ) (h : Head) → headOf scheme file clock ≡ accepted h
+    → (header : ℕ) × (messageHeader file ≡ accepted header) × (h .block ≡ header + 18) × (scaleFields scheme file (h .block) ≡ accepted (h .scaling))
+unfolding headOf
+block-start scheme file clock h e =
+    through (token file) _ h e λ at _ e₁.
+    through (messageHeader file) _ h e₁ λ header is e₂.
+    through (pdbFields file (header + 18)) _ h e₂ λ fields _ e₃.
+    through (scanTime (fields .«scan_days») (fields .«scan_seconds») clock) _ h e₃ λ time _ e₄.
+    through (scaleFields scheme file (header + 18)) _ h e₄ λ scaling es e₅.
+    let y = sym (one-value e₅) in
+    let b : h .block ≡ header + 18 = ap (λ (x : Head). x .block) y in
+    (header, is, b, rw b (es ∙ ap (λ (x : Head). accepted (x .scaling)) (sym y)))
+
+-- a picture with other codes
+abbrev pub picture : Accepted → List ℕ → Picture
+picture p codes = record { figures = p .sweep .figures; azimuths = p .azimuths; codes = codes }
+
+-- what is accepted with those codes
+abbrev pub with-codes : (ℕ → Float) → Accepted → List ℕ → Accepted
+with-codes value p codes = record { sweep = p .sweep; azimuths = p .azimuths; codes = codes; physical = map value codes }
+
+module _ (scheme : Scheme) (file : List ℕ) (clock : ℕ) (na nc np : ℕ) where
+  -- what was read where the body b gave p
+  pub record Parts (b : List ℕ) (p : Accepted) : Type 0 where
+    pub head : Head
+    pub head-is : headOf scheme file clock ≡ accepted head
+    pub body : Given Symbology.Sweep
+    pub body-is : run symbology b 0 ≡ accepted body
+    pub figures : body .value .figures ≡ p .sweep .figures
+    pub azimuths : body .value .azimuths ≡ p .azimuths
+    pub codes : joined (body .rows) ≡ p .codes
+    pub physical : p .physical ≡ map (physicalOf scheme file (head .block)) (p .codes)
+    -- what stands after the symbology looks at no code
+    pub finishes : (l : List ℕ) → finish scheme file na nc np head (picture p l) ≡ accepted (with-codes (physicalOf scheme file (head .block)) p l)
+
+  pub parts : (b : List ℕ) (p : Accepted) → sweepOf scheme file clock b na nc np ≡ accepted p → Parts b p
+  unfolding sweepOf pictureOf finish
+  parts b p acc =
+      through (headOf scheme file clock) _ p acc λ h eh e₁.
+      through (pictureOf b) _ p e₁ λ q eq e₂.
+      through (run symbology b 0) _ q eq λ g eg e₃.
+      passed (not (allowed scheme (q .figures .packet))) _ _ p e₂ λ t e₄.
+      through (declaredScale (h .scaling)) _ p e₄ λ declared ed e₅.
+      through (roomFor na nc np (q .figures)) _ p e₅ λ u eu e₆.
+      subst (Parts b) (one-value e₆)
+      (record {
+        head = h;
+        head-is = eh;
+        body = g;
+        body-is = eg;
+        figures = cc;
+        azimuths = cc;
+        codes = cc;
+        physical = refl;
+        finishes = λ l. rw (t, ed, eu);
+      })
+
+-- how many places an accepted sweep fills
+pub record Sizes (p : Accepted) : Type 0 where
+  pub azimuths : length (p .azimuths) ≡ p .sweep .figures .«n_radials»
+  pub codes : length (p .codes) ≡ p .sweep .figures .«n_radials» * p .sweep .figures .«n_bins»
+  pub physical : length (p .physical) ≡ p .sweep .figures .«n_radials» * p .sweep .figures .«n_bins»
+
+pub sizes : (scheme : Scheme) (file : List ℕ) (clock : ℕ) (b : List ℕ) (na nc np : ℕ) (p : Accepted) → sweepOf scheme file clock b na nc np ≡ accepted p → Sizes p
+sizes scheme file clock b na nc np p acc =
+    let q = parts scheme file clock na nc np b p acc in
+    let long : length (p .codes) ≡ p .sweep .figures .«n_radials» * p .sweep .figures .«n_bins» =
+    ap length (sym (q .codes)) ∙ codes-long b (q .body) (q .body-is) (p .sweep .figures) (q .figures) in
+    record {
+      azimuths = ap length (sym (q .azimuths)) ∙ centred b (q .body) (q .body-is) ∙ ap (λ (f : Figures). f .«n_radials») (q .figures);
+      codes = long;
+      physical = ap length (q .physical) ∙ length-map (p .codes) _ ∙ long;
+    }

@@ -1,0 +1,245 @@
+-- The sweep reading by way of symbology's entry, a law for each answer of the code. Assumes nothing.
+use Prim.Native.Nat.{ℕ, _*_, _≤_}
+use native.Mathlib.Omega.{arith}
+use mathlib.Core.List.{List, [], map, _++_}
+use mathlib.Core.Bool.{Bool, true, false, not}
+use mathlib.Core.Path.{_≡_, refl, sym, ap, subst, _∙_}
+use lib.Dec.{ltb}
+use lib.ListN.{length, take, drop, length-map}
+use lib.Seq.{take-append-seam}
+use Rattle.bytes.specs.declared.error.Level3DecodeError.{Level3DecodeError}
+use lib.Ieee.{Float}
+use borrow.Author.Tests.{le-ltb, ltb-false}
+use Rattle.bytes.specs.Refusal.{Refusal, kind, buffer, refusalOf}
+use Rattle.bytes.specs.Result.{Result, accepted, refused, refuse, then, lent}
+use Rattle.scale.specs.Outcome.{declaredScaleOf}
+use Rattle.scale.specs.Physical.{scaleFields, declaredScale, physicalOf, fillOf}
+use Rattle.scale.specs.declared.physical.Declared.{Declared}
+use Rattle.scale.specs.declared.physical.DeclaredScaleRead.{DeclaredScaleRead}
+use Rattle.scale.specs.declared.physical.DeclaredScaleRead.the-variants as DeclaredScaleRead
+use Rattle.scale.specs.declared.physical.Scheme.{Scheme}
+use Rattle.symbology.specs.Answers.{Picture, pictureOf, asked, tooFew, roomIn, admit, decodeFor, figuresIn, checkOf}
+use Rattle.symbology.specs.Symbology.{symbology}
+use Rattle.bytes.specs.Reading.{run}
+use Rattle.symbology.specs.declared.figures.Figures.{Figures}
+use Rattle.symbology.specs.declared.figures.Packet.{Packet}
+use Rattle.symbology.specs.declared.figures.Packet.the-variants.{Packet16, PacketAf1f, Packet28}
+use Rattle.symbology.specs.declared.figures.Terms.{Terms}
+use Rattle.sweep.specs.declared.plan.Head.{Head}
+use Rattle.sweep.specs.declared.sweep.Sweep.{Sweep}
+use Rattle.sweep.proofs.Parts.{clash, one-value, through, passed, block-start}
+use Rattle.sweep.proofs.RowLaws.{codes-long}
+use Rattle.sweep.specs.Sweep.{headOf, allowed, roomFor, Accepted, finish, sweepOf, sweepIn, scaleCheck, termsFor}
+
+-- ---- what is asked of a body on the terms of a scheme
+
+asked-is : (scheme : Scheme) (d : DeclaredScaleRead) (np : ℕ) (packet : Packet) → asked (termsFor scheme d np) packet ≡ allowed scheme packet
+unfolding asked termsFor
+asked-is scheme d np Packet16 = refl
+asked-is scheme d np PacketAf1f = refl
+asked-is scheme d np Packet28 = refl
+
+-- what acceptance gives
+abbrev swept : Scheme → List ℕ → Head → Picture → Declared → Accepted
+swept scheme file h p declared =
+    record {
+      sweep = record { token = h .token; fields = h .fields; time = h .time; declared = declared; figures = p .figures };
+      azimuths = p .azimuths;
+      codes = p .codes;
+      physical = map (physicalOf scheme file (h .block)) (p .codes);
+    }
+
+module _ (scheme : Scheme) (file : List ℕ) (h : Head) (na nc np : ℕ) where
+  by-declared : (b : Bool) (d : DeclaredScaleRead) (room : Result (Unit {0})) (p : Picture)
+      → refuse b (kind 10 []) (then (declaredScaleOf d) λ declared. then room λ _. accepted (swept scheme file h p declared))
+      ≡ then (then (refuse b (kind 10 []) (then (checkOf (scaleCheck d)) λ _. room)) λ _. accepted p) λ q. then (declaredScaleOf d) λ declared. accepted (swept scheme file h q declared)
+  by-declared true d room p = refl
+  by-declared false (DeclaredScaleRead.Refused e) room p = refl
+  by-declared false (DeclaredScaleRead.Value declared) (accepted u) p = refl
+  by-declared false (DeclaredScaleRead.Value declared) (refused x) p = refl
+
+  finish-is : (d : DeclaredScaleRead) → declaredScaleOf d ≡ declaredScale (h .scaling) → (p : Picture)
+      → finish scheme file na nc np h p
+      ≡ then (then (admit (termsFor scheme d np) na nc (p .figures)) λ _. accepted p) λ q. then (declaredScaleOf d) λ declared. accepted (swept scheme file h q declared)
+  unfolding finish admit roomIn roomFor tooFew termsFor
+  finish-is d e p = rw (← e, asked-is scheme d np (p .figures .packet)) (by-declared (not (allowed scheme (p .figures .packet))) d (roomFor na nc np (p .figures)) p)
+
+-- ---- a picture that was read
+
+refused-figures : (z : Result Picture) {x : Refusal} → refused x ≡ figuresIn z → z ≡ refused x
+refused-figures (accepted p) {x} e = clash (p .figures) x e
+refused-figures (refused y) e = ap refused (same (sym e))
+  where
+    same : {x y : Refusal} → _≡_ {A = Result Figures} (refused x) (refused y) → x ≡ y
+    same h = cc
+
+given-figures : (z : Result Picture) {f : Figures} → accepted f ≡ figuresIn z → (p : Picture) × (z ≡ accepted p) × (p .figures ≡ f)
+given-figures (accepted p) e = (p, refl, sym (one-value e))
+given-figures (refused x) {f} e = clash f x (sym e)
+
+-- an accepted body has as many codes as its figures say
+many : (body : List ℕ) (p : Picture) → pictureOf body ≡ accepted p → length (p .codes) ≡ p .figures .«n_radials» * p .figures .«n_bins»
+unfolding pictureOf
+many body p e =
+    through (run symbology body 0) _ p e λ g eg y.
+    let same = one-value y in
+    ap (λ (q : Picture). length (q .codes)) (sym same) ∙ codes-long body g eg (p .figures) (ap (λ (q : Picture). q .figures) same)
+
+passed-value : {C : Type 0} (d : DeclaredScaleRead) (r : Result (Unit {0})) → then (checkOf (scaleCheck d)) (λ _. r) ≡ accepted tt
+    → ((declared : Declared) → d ≡ DeclaredScaleRead.Value declared → r ≡ accepted tt → C) → C
+passed-value (DeclaredScaleRead.Value declared) r e k = k declared refl e
+passed-value (DeclaredScaleRead.Refused x) r e k = clash tt (refusalOf x) e
+
+-- what is known once a body was read on the terms of a scheme
+pub record Drawn (scheme : Scheme) (d : DeclaredScaleRead) (body : List ℕ) (na nc np : ℕ) (f : Figures) : Type 0 where
+  pub picture : Picture
+  pub is : decodeFor (termsFor scheme d np) body na nc ≡ accepted picture
+  pub figures : picture .figures ≡ f
+  pub many : length (picture .codes) ≡ f .«n_radials» * f .«n_bins»
+  pub declared : Declared
+  pub declares : d ≡ DeclaredScaleRead.Value declared
+  pub codes-room : f .«n_radials» * f .«n_bins» ≤ nc
+  pub physical-room : f .«n_radials» * f .«n_bins» ≤ np
+
+pub drawn : (scheme : Scheme) (d : DeclaredScaleRead) (body : List ℕ) (na nc np : ℕ) {f : Figures} → accepted f ≡ figuresIn (decodeFor (termsFor scheme d np) body na nc)
+    → Drawn scheme d body na nc np f
+unfolding decodeFor admit roomIn tooFew termsFor
+drawn scheme d body na nc np {f} e =
+    let g = given-figures (decodeFor (termsFor scheme d np) body na nc) e in
+    let p = g .0 in
+    through (pictureOf body) _ p (g .1) λ q eq e₁.
+    through (admit (termsFor scheme d np) na nc (q .figures)) _ p e₁ λ u ea e₂.
+    let same = one-value e₂ in
+    passed (not (asked (termsFor scheme d np) (q .figures .packet))) _ _ tt ea λ _ e₃.
+    passed-value d _ e₃ λ declared ed e₄.
+    passed (ltb na (q .figures .«n_radials»)) _ _ tt e₄ λ _ e₅.
+    passed (ltb nc (q .figures .«n_radials» * q .figures .«n_bins»)) _ _ tt e₅ λ c e₆.
+    passed (ltb np (q .figures .«n_radials» * q .figures .«n_bins»)) _ _ tt e₆ λ v _.
+    subst (Drawn scheme d body na nc np) (ap (λ (x : Picture). x .figures) same ∙ g .2)
+    (record {
+      picture = q;
+      is = g .1 ∙ ap accepted (sym same);
+      figures = refl;
+      many = many body q eq;
+      declared = declared;
+      declares = ed;
+      codes-room = ltb-false _ _ c;
+      physical-room = ltb-false _ _ v;
+    })
+
+-- the scale fields are read and there is room: the values are filled in
+fills : (scheme : Scheme) (file : List ℕ) (clock : ℕ) (h : Head) → headOf scheme file clock ≡ accepted h → (codes : List ℕ) (np : ℕ) → length codes ≤ np
+    → fillOf scheme file (h .block) codes np ≡ accepted (map (physicalOf scheme file (h .block)) codes)
+unfolding fillOf
+fills scheme file clock h e codes np room = rw (block-start scheme file clock h e .3, le-ltb np (length codes) room)
+
+-- ---- the answers
+
+-- what the code says and leaves, by a result: beside the picture, and in buffers that held az, cs and ph
+abbrev Told : Result Accepted → List Float → List ℕ → List Float → Result Sweep → List Float → List ℕ → List Float → Type 0
+Told d az cs ph r az' cs' ph' =
+    (r ≡ sweepIn d) × ((az' ≡ lent d (λ p. p .azimuths) az) × ((cs' ≡ lent d (λ p. p .codes) cs) × (ph' ≡ lent d (λ p. p .physical) ph)))
+
+told : {d d' : Result Accepted} (az : List Float) (cs : List ℕ) (ph : List Float) → d ≡ d'
+    → Told d' az cs ph (sweepIn d) (lent d (λ p. p .azimuths) az) (lent d (λ p. p .codes) cs) (lent d (λ p. p .physical) ph)
+told az cs ph e = (
+  ap sweepIn e,
+  (ap (λ d. lent d (λ p. p .azimuths) az) e, (ap (λ d. lent d (λ p. p .codes) cs) e, ap (λ d. lent d (λ p. p .physical) ph) e)),
+)
+
+module _ (scheme : Scheme) (file : List ℕ) (clock : ℕ) (body : List ℕ) (az : List Float) (cs : List ℕ) (ph : List Float) where
+  abbrev Reads : Result Sweep → List Float → List ℕ → List Float → Type 0
+  Reads = Told (sweepOf scheme file clock body (length az) (length cs) (length ph)) az cs ph
+
+  pub head-refused : {x : Refusal} → refused x ≡ headOf scheme file clock → Reads (refused x) az cs ph
+  unfolding sweepOf
+  head-refused {x} e = let d : refused x ≡ sweepOf scheme file clock body (length az) (length cs) (length ph) = rw (← e) in told az cs ph d
+
+  -- the head is read, the terms are made of it, and the body is read on them
+  module _ (h : Head) (d : DeclaredScaleRead) (t : Terms) (eh : accepted h ≡ headOf scheme file clock) (ed : declaredScaleOf d ≡ declaredScale (h .scaling))
+      (et : t ≡ termsFor scheme d (length ph)) where
+    abbrev D : Result Picture
+    D = decodeFor t body (length az) (length cs)
+
+    by-decode : sweepOf scheme file clock body (length az) (length cs) (length ph)
+        ≡ then D λ p. then (declaredScaleOf d) λ declared. accepted (swept scheme file h p declared)
+    unfolding sweepOf decodeFor
+    by-decode = rw (← eh, et) (by (pictureOf body))
+      where
+        by : (z : Result Picture)
+            → then z (finish scheme file (length az) (length cs) (length ph) h)
+            ≡ then (then z λ p. then (admit (termsFor scheme d (length ph)) (length az) (length cs) (p .figures)) λ _. accepted p)
+            λ p. then (declaredScaleOf d) λ declared. accepted (swept scheme file h p declared)
+        by (accepted p) = finish-is scheme file h (length az) (length cs) (length ph) d ed p
+        by (refused x) = refl
+
+    pub body-refused : {x : Refusal} {az' : List Float} {cs' : List ℕ} → refused x ≡ figuresIn D
+        → az' ≡ lent D (λ p. p .azimuths) az → cs' ≡ lent D (λ p. p .codes) cs → Reads (refused x) az' cs' ph
+    body-refused {x} e a c =
+        let z = refused-figures D e in
+        let r : refused x ≡ sweepOf scheme file clock body (length az) (length cs) (length ph) = sym (by-decode ∙ rw z) in
+        let w = told az cs ph r in
+        (w .0, (a ∙ ap (λ d. lent d (λ p. p .azimuths) az) z ∙ w .1 .0, (c ∙ ap (λ d. lent d (λ p. p .codes) cs) z ∙ w .1 .1 .0, w .1 .1 .1)))
+
+-- ---- after symbology's entry has accepted
+
+-- The head h was read, the declared scale d and the terms t made of it, and the body read on them: it has the figures f.
+pub record Decoded (scheme : Scheme) (file : List ℕ) (clock : ℕ) (body : List ℕ) (az : List Float) (cs : List ℕ) (ph : List Float) (h : Head) (d : DeclaredScaleRead) (t : Terms) (f : Figures)
+    : Type 0 where
+  pub head-is : accepted h ≡ headOf scheme file clock
+  pub declared-is : declaredScaleOf d ≡ declaredScale (h .scaling)
+  pub terms-are : t ≡ termsFor scheme d (length ph)
+  pub figures-are : accepted f ≡ figuresIn (decodeFor t body (length az) (length cs))
+
+module _ {scheme : Scheme} {file : List ℕ} {clock : ℕ} {body : List ℕ} {az : List Float} {cs : List ℕ} {ph : List Float} {h : Head} {d : DeclaredScaleRead} {t : Terms} {f : Figures}
+    (w : Decoded scheme file clock body az cs ph h d t f) where
+  pub drawn-here : Drawn scheme d body (length az) (length cs) (length ph) f
+  drawn-here =
+      drawn scheme d body (length az) (length cs) (length ph)
+      (w .figures-are ∙ ap (λ x. figuresIn (decodeFor x body (length az) (length cs))) (w .terms-are))
+
+  drawn-is : decodeFor t body (length az) (length cs) ≡ accepted (drawn-here .picture)
+  drawn-is = ap (λ x. decodeFor x body (length az) (length cs)) (w .terms-are) ∙ drawn-here .is
+
+  -- an answer of the code that can't be
+  pub scale-accepts : {C : Type 0} {e : Level3DecodeError} → d ≡ DeclaredScaleRead.Refused e → C
+  scale-accepts {C} {e} r = clash (drawn-here .declared) (refusalOf e) (ap declaredScaleOf (sym r ∙ drawn-here .declares))
+
+  -- the buffer of codes then holds cs'
+  module _ {cs' : List ℕ} (c : cs' ≡ lent (decodeFor t body (length az) (length cs)) (λ p. p .codes) cs) where
+    now-codes : cs' ≡ drawn-here .picture .codes ++ drop (length (drawn-here .picture .codes)) cs
+    now-codes = c ∙ ap (λ r. lent r (λ p. p .codes) cs) drawn-is
+
+    -- the values of its front, which are the cells of the picture
+    abbrev Fill : Result (List Float)
+    Fill = fillOf scheme file (h .block) (take (f .«n_radials» * f .«n_bins») cs') (length ph)
+
+    same-codes : take (f .«n_radials» * f .«n_bins») cs' ≡ drawn-here .picture .codes
+    same-codes =
+        let p = drawn-here .picture .codes in
+        ap (take (f .«n_radials» * f .«n_bins»)) now-codes ∙ ap (λ n. take n (p ++ drop (length p) cs)) (sym (drawn-here .many)) ∙ take-append-seam p _
+
+    filled : Fill ≡ accepted (map (physicalOf scheme file (h .block)) (drawn-here .picture .codes))
+    filled =
+        ap (λ l. fillOf scheme file (h .block) l (length ph)) same-codes
+        ∙ fills scheme file clock h (sym (w .head-is)) (drawn-here .picture .codes) (length ph) (rw (drawn-here .many) (drawn-here .physical-room))
+
+    -- another
+    pub fill-accepts : {C : Type 0} {x : Refusal} → _≡_ {A = Result (Unit {0})} (refused x) (then Fill λ _. accepted tt) → C
+    fill-accepts {C} {x} e = clash tt x (e ∙ ap {B = Result (Unit {0})} (λ r. then r λ _. accepted tt) filled)
+
+    pub read : {declared : Declared} {az' ph' : List Float} → d ≡ DeclaredScaleRead.Value declared
+        → az' ≡ lent (decodeFor t body (length az) (length cs)) (λ p. p .azimuths) az → ph' ≡ lent Fill (λ values. values) ph
+        → Reads scheme file clock body az cs ph (accepted (record { token = h .token; fields = h .fields; time = h .time; declared = declared; figures = f })) az' cs' ph'
+    read {declared} is a v =
+        let r : accepted (swept scheme file h (drawn-here .picture) declared) ≡ sweepOf scheme file clock body (length az) (length cs) (length ph) =
+        sym (by-decode scheme file clock body az cs ph h d t (w .head-is) (w .declared-is) (w .terms-are)
+        ∙ ap (λ z. then z λ p. then (declaredScaleOf d) λ declared. accepted (swept scheme file h p declared)) drawn-is
+        ∙ ap (λ y. then (declaredScaleOf y) λ declared. accepted (swept scheme file h (drawn-here .picture) declared)) is) in
+        let x = told az cs ph r in (
+          ap (λ g. accepted (record { token = h .token; fields = h .fields; time = h .time; declared = declared; figures = g })) (sym (drawn-here .figures)) ∙ x .0,
+          (
+            a ∙ ap (λ r. lent r (λ p. p .azimuths) az) drawn-is ∙ x .1 .0,
+            (now-codes ∙ x .1 .1 .0, v ∙ ap (λ r. lent r (λ values. values) ph) filled ∙ x .1 .1 .1),
+          ),
+        )

@@ -1,0 +1,3 @@
+// The sweep reading: file bytes, clock, scheme and body to a picture in lent buffers.
+pub mod plan;
+pub mod sweep;
