@@ -56,7 +56,7 @@ fails {n = n} {ints = ints} {floats = floats} e q =
       floats-left = same-floats (short (length ints) (length floats)) floats;
     })
 
-none-chosen : {A : Type 0} (xs : List A) (n : ℕ) → length xs ≤ n → choice n xs ≡ failed 101
+pub none-chosen : {A : Type 0} (xs : List A) (n : ℕ) → length xs ≤ n → choice n xs ≡ failed 101
 unfolding choice
 none-chosen [] zero h = refl
 none-chosen [] (suc n) h = refl

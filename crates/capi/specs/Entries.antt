@@ -11,10 +11,15 @@ use Rattle.bytes.specs.Products.{codes}
 use Rattle.head.specs.Pdb.{hwI16, hwU16, hwI32, hwPair}
 use Rattle.scale.specs.Pdb.{thresholdPlace}
 use Rattle.scale.specs.Legacy.{levelsOf}
+use Rattle.scale.specs.declared.physical.Scheme.{Scheme}
+use Rattle.scale.specs.declared.physical.Scheme.the-variants as Scheme
+use Rattle.sweep.specs.Sweep.{Accepted, sweepOf}
 use Rattle.xdr.specs.Xdr as Xdr
 use Rattle.xdr.specs.Answers.{done, stringPart, arrayPart}
 use Rattle.capi.specs.declared.report.Report.{Report}
-use Rattle.capi.specs.Report.{reportOf, endedReport, Said, said, failed, choice}
+use Rattle.capi.specs.declared.sweeps.Asked.{Asked}
+use Rattle.capi.specs.declared.sweeps.Asked.the-variants as Asked
+use Rattle.capi.specs.Report.{reportOf, endedReport, Said, said, failed, saying, choice}
 use Rattle.capi.specs.Places.{nothing, number, signedNumber, float, pair, part}
 
 -- a field, by its kind: i16, u16, i32, a pair of f32
@@ -43,3 +48,16 @@ levelsSaid bytes post n = cond (eqb (length bytes) 32 && eqb n 16) (said (levels
 -- the known codes, for a buffer of n places
 unfoldable pub codesSaid : ℕ → Said (List ℕ)
 codesSaid n = cond (eqb n 26) (said codes) (failed 101)
+
+-- a scheme by its number, with the factor or the post-scale: halfword, float, precipitation, legacy, class
+abbrev pub schemeSaid : ℕ → Float → Said Scheme
+schemeSaid n x = choice n (Scheme.Halfword ∷ Scheme.Float ∷ Scheme.Precipitation x ∷ Scheme.Legacy x ∷ Scheme.Class ∷ [])
+
+-- the sweep, for buffers of `na`, `nc` and `np` places
+abbrev pub sweepSaid : ℕ → Float → List ℕ → ℕ → List ℕ → ℕ → ℕ → ℕ → Said (Result Accepted)
+sweepSaid n x file clock body na nc np = saying (λ scheme. sweepOf scheme file clock body na nc np) (schemeSaid n x)
+
+-- what the code says of a scheme's number
+abbrev pub askedOf : Asked → Said Scheme
+askedOf (Asked.Known s) = said s
+askedOf Asked.Unknown = failed 101

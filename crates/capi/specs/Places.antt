@@ -10,6 +10,9 @@ use Rattle.scale.specs.declared.scaling.LinearScale.{LinearScale}
 use Rattle.scale.specs.declared.scaling.PrecipScale.{PrecipScale}
 use Rattle.scale.specs.declared.scaling.Ceiling.{Ceiling}
 use Rattle.scale.specs.declared.scaling.Ceiling.the-variants as Ceiling
+use Rattle.scale.specs.declared.physical.Declared.{Declared}
+use Rattle.scale.specs.declared.physical.Declared.the-variants as Declared
+use Rattle.sweep.specs.declared.sweep.Sweep.{Sweep}
 use Rattle.symbology.specs.declared.figures.Figures.{Figures}
 use Rattle.symbology.specs.declared.figures.Packet.{Packet}
 use Rattle.symbology.specs.declared.figures.Packet.the-variants.{Packet16, PacketAf1f, Packet28}
@@ -139,6 +142,19 @@ precipPlaces p =
       step = p .«value_increment»;
     }
 
+-- the scale that a product declares, where it declares one
+abbrev pub declaredPlaces : Declared → ScalePlaces
+declaredPlaces (Declared.Scale d) =
+    record {
+      declared = 1;
+      levels = d .«n_levels»;
+      floor = d .«data_floor_code»;
+      ceiling = 0;
+      minimum = d .«value_min»;
+      step = d .«value_increment»;
+    }
+declaredPlaces Declared.Absent = noScale
+
 abbrev pub fields : PdbFields → Report
 fields f = placed (headPlaces 0 f 0) noPicture noScale
 
@@ -150,3 +166,6 @@ linear s = placed noHead noPicture (linearPlaces s)
 
 abbrev pub precip : PrecipScale → Report
 precip p = placed noHead noPicture (precipPlaces p)
+
+abbrev pub sweep : Sweep → Report
+sweep s = placed (headPlaces (s .token) (s .fields) (s .time)) (picturePlaces (s .figures)) (declaredPlaces (s .declared))

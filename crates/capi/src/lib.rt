@@ -8,3 +8,4 @@ mod places;
 pub mod products;
 mod report;
 pub mod scaling;
+pub mod sweeps;

@@ -3,14 +3,16 @@ use crate::report::Report;
 use crate::report::word_of;
 use crate::report::word_of_half;
 use head::pdb::PdbFields;
+use scale::physical::Declared;
 use scale::scaling::Ceiling;
 use scale::scaling::LinearScale;
 use scale::scaling::PrecipScale;
+use sweep::sweep::Sweep;
 use symbology::figures::Figures;
 use symbology::figures::Geometry;
 use symbology::figures::Packet;
 ghost use mathlib.Core.Path.{_≡_};
-ghost use Rattle.capi.specs.Places.{pair, placed, noHead, noPicture, noScale, headPlaces, packetNumber, rangeScale, gateWidth, firstGate, picturePlaces, linearPlaces, ceilingNumber, precipPlaces, fields, figures, linear, precip};
+ghost use Rattle.capi.specs.Places.{pair, placed, noHead, noPicture, noScale, headPlaces, packetNumber, rangeScale, gateWidth, firstGate, picturePlaces, linearPlaces, ceilingNumber, precipPlaces, declaredPlaces, fields, figures, linear, precip, sweep};
 
 pub struct HeadPlaces {
     pub token: u64,
@@ -236,6 +238,22 @@ fn precip_places(p: PrecipScale) -> ScalePlaces
     }
 }
 
+fn declared_places(declared: Declared) -> ScalePlaces
+    ensures { λ r. ⌜ r ≡ declaredPlaces declared ⌝ }
+{
+    match declared {
+        Declared::Scale(d) => ScalePlaces {
+            declared: 1,
+            levels: d.n_levels as u64,
+            floor: d.data_floor_code as u64,
+            ceiling: 0,
+            minimum: std::num::f32_to_f64_with_nan(d.value_min),
+            step: std::num::f32_to_f64_with_nan(d.value_increment),
+        },
+        Declared::Absent => no_scale(),
+    }
+}
+
 pub(crate) fn of_fields(f: PdbFields) -> Report
     ensures { λ r. ⌜ r ≡ fields f ⌝ }
 {
@@ -258,4 +276,17 @@ pub(crate) fn of_precip(p: PrecipScale) -> Report
     ensures { λ r. ⌜ r ≡ precip p ⌝ }
 {
     placed_report(no_head(), no_picture(), precip_places(p))
+}
+
+pub(crate) fn of_sweep(s: Sweep) -> Report
+    ensures { λ r. ⌜ r ≡ sweep s ⌝ }
+{
+    let fields = s.fields;
+    let figures = s.figures;
+    let declared = s.declared;
+    placed_report(
+        head_places(s.token, fields, s.time),
+        picture_places(figures),
+        declared_places(declared),
+    )
 }
