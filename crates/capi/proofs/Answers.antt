@@ -1,11 +1,10 @@
 -- From the answer of a lower function to what an entry leaves. Assumes nothing.
 use mathlib.Core.Path.{_≡_, refl, sym, ap, subst, _∙_}
-use mathlib.Core.Bool.{Bool, true, false, cond, _&&_}
-use mathlib.Core.List.{List, [], _∷_, _++_, append-nil}
+use mathlib.Core.Bool.{Bool, true, false, cond}
+use mathlib.Core.List.{List, [], _∷_, append-nil}
 use Prim.Native.Nat.{ℕ, zero, suc, _≤_}
 use native.Mathlib.Nat.{le-of-suc-le-suc, not-suc-le-zero}
 use lib.ListN.{length, take, drop}
-use lib.Dec.{eqb}
 use lib.Seq.{drop-length}
 use lib.Ieee.{Float}
 use borrow.Author.Tests.{eq-eqb, ne-eqb}
@@ -15,16 +14,16 @@ use Rattle.bytes.specs.Products.{codes}
 use Rattle.scale.specs.Pdb.{thresholdPlace, thresholdBytes}
 use Rattle.scale.specs.Legacy.{levelsOf}
 use Rattle.capi.specs.declared.report.Report.{Report}
-use Rattle.capi.specs.Report.{reportOf, endedReport, withPosition, Said, said, failed, choice, short, numberOf, intsAfter, floatsAfter, over, Leaves}
+use Rattle.capi.specs.Report.{reportOf, endedReport, Said, said, failed, choice, short, numberOf, intsAfter, floatsAfter, over, Leaves}
 use Rattle.capi.specs.Entries.{thresholdSaid, levelsSaid, codesSaid}
 
 -- an arm of a match on an answer: x turned out to be x'
 module _ {X A : Type 0} (f : A → Report) where
-  pub arm : (of : X → Result A) {r : Report} {x x' : X} → r ≡ reportOf f (of x') → x ≡ x' → r ≡ reportOf f (of x)
-  arm of p q = p ∙ ap (λ y. reportOf f (of y)) (sym q)
+  pub arm : (of : X → Result A) {r : Report} {x x' : X} → r ≡ reportOf (of x') f → x ≡ x' → r ≡ reportOf (of x) f
+  arm of p q = p ∙ ap (λ y. reportOf (of y) f) (sym q)
 
-  pub ended-arm : (of : X → Ended A) {r : Report} {x x' : X} → r ≡ endedReport f (of x') → x ≡ x' → r ≡ endedReport f (of x)
-  ended-arm of p q = p ∙ ap (λ y. endedReport f (of y)) (sym q)
+  pub ended-arm : (of : X → Ended A) {r : Report} {x x' : X} → r ≡ endedReport (of x') f → x ≡ x' → r ≡ endedReport (of x) f
+  ended-arm of p q = p ∙ ap (λ y. endedReport (of y) f) (sym q)
 
 -- a report is what is said
 pub by-report : {R R' : Report} {n : ℕ} {ints ints' : List ℕ} {floats floats' : List Float}

@@ -1,7 +1,7 @@
 -- Laws of reports. Assumes nothing.
 use mathlib.Core.Path.{_≡_, refl, sym, ap, _∙_}
-use mathlib.Core.Bool.{Bool, true, false, cond, _||_}
-use Prim.Native.Nat.{ℕ, _≤_, _<_}
+use mathlib.Core.Bool.{Bool, true, false, _||_}
+use Prim.Native.Nat.{ℕ, _≤_}
 use mathlib.Core.List.{List}
 use lib.ListN.{length}
 use lib.Dec.{ltb}
@@ -11,7 +11,7 @@ use borrow.Author.Tests.{ltb-false}
 use Rattle.bytes.specs.declared.error.Level3DecodeError.{Level3DecodeError}
 use Rattle.bytes.specs.Refusal.{refusalOf}
 use Rattle.capi.specs.declared.report.Report.{Report}
-use Rattle.capi.specs.Report.{refusalReport, Said, said, failed, short, over, Leaves}
+use Rattle.capi.specs.Report.{refusalReport, Said, said, short, over, Leaves}
 
 -- the report of an error that was told apart
 pub told : {r : Report} {e e' : Level3DecodeError} → r ≡ refusalReport (refusalOf e) → e' ≡ e → r ≡ refusalReport (refusalOf e')

@@ -5,9 +5,9 @@ use Prim.Native.Nat.{ℕ, suc, _-_, _≤_, _<_}
 use native.Mathlib.Omega.{arith}
 use lib.IntN.{ℤ, pos, negsuc, natAbs}
 use lib.Signed.{ltZ, nonNeg}
-use lib.Dec.{T, leb}
+use lib.Dec.{T}
 use mir.Syntax.{Width, w16, w32, w64}
-use mir.Val.{hbits, Fits, SFits, toZ, ofZ}
+use mir.Val.{Fits, SFits, toZ, ofZ}
 use mir.Facts.{sfits-widen, toZ-ofZ, toZ-pos}
 use borrow.Author.Tests.{ltb-true}
 use Rattle.capi.specs.Report.{word}

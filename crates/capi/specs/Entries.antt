@@ -20,22 +20,22 @@ use Rattle.capi.specs.declared.report.Report.{Report}
 use Rattle.capi.specs.declared.sweeps.Asked.{Asked}
 use Rattle.capi.specs.declared.sweeps.Asked.the-variants as Asked
 use Rattle.capi.specs.Report.{reportOf, endedReport, Said, said, failed, saying, choice}
-use Rattle.capi.specs.Places.{nothing, number, signedNumber, float, pair, part}
+use Rattle.capi.specs.Places.{noReport, numberReport, signedReport, floatReport, pairReport, partReport}
 
 -- a field, by its kind: i16, u16, i32, a pair of f32
 abbrev pub fieldSaid : List ℕ → ℕ → ℕ → ℕ → Said Report
 fieldSaid file block index kind =
     choice kind
-    (reportOf signedNumber (hwI16 file block index) ∷ reportOf number (hwU16 file block index)
-    ∷ reportOf signedNumber (hwI32 file block index) ∷ reportOf pair (hwPair file block index) ∷ [])
+    (reportOf (hwI16 file block index) signedReport ∷ reportOf (hwU16 file block index) numberReport
+    ∷ reportOf (hwI32 file block index) signedReport ∷ reportOf (hwPair file block index) pairReport ∷ [])
 
 -- an XDR item, by its number: int, uint, float, string, array of integers, list of parameters
 abbrev pub xdrSaid : ℕ → List ℕ → ℕ → Said Report
 xdrSaid op s at =
     choice op
-    (endedReport signedNumber (walk Xdr.int s at) ∷ endedReport number (walk Xdr.uint s at) ∷ endedReport float (walk Xdr.float s at)
-    ∷ endedReport part (stringPart s at (walk Xdr.string s at)) ∷ endedReport part (arrayPart at (walk Xdr.intArray s at))
-    ∷ endedReport nothing (done (walk (Xdr.counted Xdr.parameter) s at)) ∷ [])
+    (endedReport (walk Xdr.int s at) signedReport ∷ endedReport (walk Xdr.uint s at) numberReport ∷ endedReport (walk Xdr.float s at) floatReport
+    ∷ endedReport (stringPart s at (walk Xdr.string s at)) partReport ∷ endedReport (arrayPart at (walk Xdr.intArray s at)) partReport
+    ∷ endedReport (done (walk (Xdr.counted Xdr.parameter) s at)) noReport ∷ [])
 
 -- the thresholds' place, for a buffer of n bytes, which has to be 32
 unfoldable pub thresholdSaid : List ℕ → ℕ → ℕ → Said (Result ℕ)

@@ -27,23 +27,23 @@ use Rattle.capi.specs.Report.{word, report}
 
 -- ---- small values: nothing, a number, a signed number, a float, two floats, a part of the payload
 
-abbrev pub nothing : {A : Type 0} → A → Report
-nothing a = report 0 [] []
+abbrev pub noReport : {A : Type 0} → A → Report
+noReport a = report 0 [] []
 
-abbrev pub number : ℕ → Report
-number n = report 0 (n ∷ []) []
+abbrev pub numberReport : ℕ → Report
+numberReport n = report 0 (n ∷ []) []
 
-abbrev pub signedNumber : ℤ → Report
-signedNumber z = report 0 (word z ∷ []) []
+abbrev pub signedReport : ℤ → Report
+signedReport z = report 0 (word z ∷ []) []
 
-abbrev pub float : Float → Report
-float x = report 0 [] (x ∷ [])
+abbrev pub floatReport : Float → Report
+floatReport x = report 0 [] (x ∷ [])
 
-abbrev pub pair : F32Pair → Report
-pair p = report 0 [] (p .scale ∷ p .offset ∷ [])
+abbrev pub pairReport : F32Pair → Report
+pairReport p = report 0 [] (p .scale ∷ p .offset ∷ [])
 
-abbrev pub part : Part → Report
-part p = report 0 (p .start ∷ p .len ∷ []) []
+abbrev pub partReport : Part → Report
+partReport p = report 0 (p .start ∷ p .len ∷ []) []
 
 -- ---- file, picture and scale
 
@@ -155,17 +155,17 @@ declaredPlaces (Declared.Scale d) =
     }
 declaredPlaces Declared.Absent = noScale
 
-abbrev pub fields : PdbFields → Report
-fields f = placed (headPlaces 0 f 0) noPicture noScale
+abbrev pub fieldsReport : PdbFields → Report
+fieldsReport f = placed (headPlaces 0 f 0) noPicture noScale
 
-abbrev pub figures : Figures → Report
-figures f = placed noHead (picturePlaces f) noScale
+abbrev pub figuresReport : Figures → Report
+figuresReport f = placed noHead (picturePlaces f) noScale
 
-abbrev pub linear : LinearScale → Report
-linear s = placed noHead noPicture (linearPlaces s)
+abbrev pub linearReport : LinearScale → Report
+linearReport s = placed noHead noPicture (linearPlaces s)
 
-abbrev pub precip : PrecipScale → Report
-precip p = placed noHead noPicture (precipPlaces p)
+abbrev pub precipReport : PrecipScale → Report
+precipReport p = placed noHead noPicture (precipPlaces p)
 
-abbrev pub sweep : Sweep → Report
-sweep s = placed (headPlaces (s .token) (s .fields) (s .time)) (picturePlaces (s .figures)) (declaredPlaces (s .declared))
+abbrev pub sweepReport : Sweep → Report
+sweepReport s = placed (headPlaces (s .token) (s .fields) (s .time)) (picturePlaces (s .figures)) (declaredPlaces (s .declared))

@@ -66,18 +66,18 @@ abbrev pub refusalReport : Refusal → Report
 refusalReport (kind n values) = report n (wholesIn values) (floatsIn values)
 
 -- the report of an accepted value, or of the refusal
-abbrev pub reportOf : {A : Type 0} → (A → Report) → Result A → Report
-reportOf f (accepted a) = f a
-reportOf f (refused x) = refusalReport x
+abbrev pub reportOf : {A : Type 0} → Result A → (A → Report) → Report
+reportOf (accepted a) f = f a
+reportOf (refused x) f = refusalReport x
 
 -- a report with a position in the last place for whole numbers
 abbrev pub withPosition : Report → ℕ → Report
 withPosition r at = record { number = r .number; ints = set (r .ints) 15 at; floats = r .floats }
 
 -- the report of a read that ended: its value or its refusal, and the position where it ended
-abbrev pub endedReport : {A : Type 0} → (A → Report) → Ended A → Report
-endedReport f (passed a at) = withPosition (f a) at
-endedReport f (halted x at) = withPosition (refusalReport x) at
+abbrev pub endedReport : {A : Type 0} → Ended A → (A → Report) → Report
+endedReport (passed a at) f = withPosition (f a) at
+endedReport (halted x at) f = withPosition (refusalReport x) at
 
 -- ---- what an entry leaves
 

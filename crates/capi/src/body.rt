@@ -11,10 +11,10 @@ ghost use lib.ListN.{length};
 ghost use Rattle.symbology.specs.Answers.{checkOf, figuresOf, figuresIn, decodeOf};
 ghost use Rattle.symbology.specs.Trailing.{trailing};
 ghost use Rattle.capi.specs.Report.{reportOf, said, roomFirst, Leaves, lentBy};
-ghost use Rattle.capi.specs.Places.{nothing, figures};
+ghost use Rattle.capi.specs.Places.{noReport, figuresReport};
 
 fn check_report(r: Check) -> Report
-    ensures { λ x. ⌜ x ≡ reportOf nothing (checkOf r) ⌝ }
+    ensures { λ x. ⌜ x ≡ reportOf (checkOf r) noReport ⌝ }
 {
     match r {
         Check::Passed => wholes(0, 0, 0, 0, 0),
@@ -23,7 +23,7 @@ fn check_report(r: Check) -> Report
 }
 
 fn figures_report(r: FiguresRead) -> Report
-    ensures { λ x. ⌜ x ≡ reportOf figures (figuresOf r) ⌝ }
+    ensures { λ x. ⌜ x ≡ reportOf (figuresOf r) figuresReport ⌝ }
 {
     match r {
         FiguresRead::Value(f) => crate::places::of_figures(f),
@@ -33,7 +33,7 @@ fn figures_report(r: FiguresRead) -> Report
 
 #[no_mangle]
 pub extern "C" fn l3_trailing(bytes: &[u8], ints: &mut [u64], floats: &mut [f64]) -> u32
-    ensures { λ r. ⌜ Leaves (said (reportOf nothing (trailing (now (bytes .entry))))) r (now (ints .entry)) (now (ints .exit)) (now (floats .entry)) (now (floats .exit)) ⌝ }
+    ensures { λ r. ⌜ Leaves (said (reportOf (trailing (now (bytes .entry))) noReport)) r (now (ints .entry)) (now (ints .exit)) (now (floats .entry)) (now (floats .exit)) ⌝ }
 {
     let answer = symbology::trailing::check_trailing(bytes);
     write_report(check_report(answer), ints, floats)
@@ -47,7 +47,7 @@ pub extern "C" fn l3_symbology(
     ints: &mut [u64],
     floats: &mut [f64],
 ) -> u32
-    ensures { λ r. ⌜ Leaves (said (reportOf figures (figuresIn (decodeOf (now (body .entry)) (length (now (azimuths .entry))) (length (now (codes .entry))))))) r (now (ints .entry)) (now (ints .exit)) (now (floats .entry)) (now (floats .exit)) ⌝ }
+    ensures { λ r. ⌜ Leaves (said (reportOf (figuresIn (decodeOf (now (body .entry)) (length (now (azimuths .entry))) (length (now (codes .entry))))) figuresReport)) r (now (ints .entry)) (now (ints .exit)) (now (floats .entry)) (now (floats .exit)) ⌝ }
     ensures { λ _. ⌜ now (azimuths .exit) ≡ lentBy (roomFirst (now (ints .entry)) (now (floats .entry)) (said (decodeOf (now (body .entry)) (length (now (azimuths .entry))) (length (now (codes .entry)))))) (λ p. p .azimuths) (now (azimuths .entry)) ⌝ }
     ensures { λ _. ⌜ now (codes .exit) ≡ lentBy (roomFirst (now (ints .entry)) (now (floats .entry)) (said (decodeOf (now (body .entry)) (length (now (azimuths .entry))) (length (now (codes .entry)))))) (λ p. p .codes) (now (codes .entry)) ⌝ }
 {

@@ -15,11 +15,11 @@ use xdr::xdr::UintRead;
 ghost use mathlib.Core.Path.{_≡_};
 ghost use Rattle.xdr.specs.Answers.{intOf, uintOf, floatOf, partOf, stepOf};
 ghost use Rattle.capi.specs.Report.{endedReport, Leaves};
-ghost use Rattle.capi.specs.Places.{nothing, number, signedNumber, float, part};
+ghost use Rattle.capi.specs.Places.{noReport, numberReport, signedReport, floatReport, partReport};
 ghost use Rattle.capi.specs.Entries.{xdrSaid};
 
 fn int_report(r: IntRead) -> Report
-    ensures { λ x. ⌜ x ≡ endedReport signedNumber (intOf r) ⌝ }
+    ensures { λ x. ⌜ x ≡ endedReport (intOf r) signedReport ⌝ }
 {
     match r {
         IntRead::Value { value, next } => with_position(wholes(0, word_of(value), 0, 0, 0), next),
@@ -28,7 +28,7 @@ fn int_report(r: IntRead) -> Report
 }
 
 fn uint_report(r: UintRead) -> Report
-    ensures { λ x. ⌜ x ≡ endedReport number (uintOf r) ⌝ }
+    ensures { λ x. ⌜ x ≡ endedReport (uintOf r) numberReport ⌝ }
 {
     match r {
         UintRead::Value { value, next } => with_position(wholes(0, value as u64, 0, 0, 0), next),
@@ -37,7 +37,7 @@ fn uint_report(r: UintRead) -> Report
 }
 
 fn float_report(r: FloatRead) -> Report
-    ensures { λ x. ⌜ x ≡ endedReport float (floatOf r) ⌝ }
+    ensures { λ x. ⌜ x ≡ endedReport (floatOf r) floatReport ⌝ }
 {
     match r {
         FloatRead::Value { value, next } => with_position(with_float(0, 0, value), next),
@@ -46,7 +46,7 @@ fn float_report(r: FloatRead) -> Report
 }
 
 fn part_report(r: PartRead) -> Report
-    ensures { λ x. ⌜ x ≡ endedReport part (partOf r) ⌝ }
+    ensures { λ x. ⌜ x ≡ endedReport (partOf r) partReport ⌝ }
 {
     match r {
         PartRead::Value { value, next } => with_position(
@@ -58,7 +58,7 @@ fn part_report(r: PartRead) -> Report
 }
 
 fn step_report(r: Step) -> Report
-    ensures { λ x. ⌜ x ≡ endedReport nothing (stepOf r) ⌝ }
+    ensures { λ x. ⌜ x ≡ endedReport (stepOf r) noReport ⌝ }
 {
     match r {
         Step::At(next) => with_position(wholes(0, 0, 0, 0, 0), next),

@@ -16,11 +16,11 @@ ghost use mathlib.Core.Path.{_≡_};
 ghost use Rattle.head.specs.Pdb.{pdbFields};
 ghost use Rattle.head.specs.Outcome.{i16Of, u16Of, i32Of, pairOf, fieldsOf};
 ghost use Rattle.capi.specs.Report.{reportOf, said, Leaves};
-ghost use Rattle.capi.specs.Places.{number, signedNumber, pair, fields};
+ghost use Rattle.capi.specs.Places.{numberReport, signedReport, pairReport, fieldsReport};
 ghost use Rattle.capi.specs.Entries.{fieldSaid};
 
 fn i16_report(r: I16Field) -> Report
-    ensures { λ x. ⌜ x ≡ reportOf signedNumber (i16Of r) ⌝ }
+    ensures { λ x. ⌜ x ≡ reportOf (i16Of r) signedReport ⌝ }
 {
     match r {
         I16Field::Value(n) => wholes(0, word_of_half(n), 0, 0, 0),
@@ -29,7 +29,7 @@ fn i16_report(r: I16Field) -> Report
 }
 
 fn u16_report(r: U16Field) -> Report
-    ensures { λ x. ⌜ x ≡ reportOf number (u16Of r) ⌝ }
+    ensures { λ x. ⌜ x ≡ reportOf (u16Of r) numberReport ⌝ }
 {
     match r {
         U16Field::Value(n) => wholes(0, n as u64, 0, 0, 0),
@@ -38,7 +38,7 @@ fn u16_report(r: U16Field) -> Report
 }
 
 fn i32_report(r: I32Field) -> Report
-    ensures { λ x. ⌜ x ≡ reportOf signedNumber (i32Of r) ⌝ }
+    ensures { λ x. ⌜ x ≡ reportOf (i32Of r) signedReport ⌝ }
 {
     match r {
         I32Field::Value(n) => wholes(0, word_of(n), 0, 0, 0),
@@ -47,7 +47,7 @@ fn i32_report(r: I32Field) -> Report
 }
 
 fn of_pair(p: F32Pair) -> Report
-    ensures { λ r. ⌜ r ≡ pair p ⌝ }
+    ensures { λ r. ⌜ r ≡ pairReport p ⌝ }
 {
     let scale = std::num::f32_to_f64_with_nan(p.scale);
     let offset = std::num::f32_to_f64_with_nan(p.offset);
@@ -59,7 +59,7 @@ fn of_pair(p: F32Pair) -> Report
 }
 
 fn pair_report(r: PairField) -> Report
-    ensures { λ x. ⌜ x ≡ reportOf pair (pairOf r) ⌝ }
+    ensures { λ x. ⌜ x ≡ reportOf (pairOf r) pairReport ⌝ }
 {
     match r {
         PairField::Value(p) => of_pair(p),
@@ -68,7 +68,7 @@ fn pair_report(r: PairField) -> Report
 }
 
 fn fields_report(r: FieldsRead) -> Report
-    ensures { λ x. ⌜ x ≡ reportOf fields (fieldsOf r) ⌝ }
+    ensures { λ x. ⌜ x ≡ reportOf (fieldsOf r) fieldsReport ⌝ }
 {
     match r {
         FieldsRead::Value(f) => crate::places::of_fields(f),
@@ -108,7 +108,7 @@ pub extern "C" fn l3_field(
 
 #[no_mangle]
 pub extern "C" fn l3_pdb(file: &[u8], block: usize, ints: &mut [u64], floats: &mut [f64]) -> u32
-    ensures { λ r. ⌜ Leaves (said (reportOf fields (pdbFields (now (file .entry)) block))) r (now (ints .entry)) (now (ints .exit)) (now (floats .entry)) (now (floats .exit)) ⌝ }
+    ensures { λ r. ⌜ Leaves (said (reportOf (pdbFields (now (file .entry)) block) fieldsReport)) r (now (ints .entry)) (now (ints .exit)) (now (floats .entry)) (now (floats .exit)) ⌝ }
 {
     let answer = head::pdb::read_pdb_fields(file, block);
     write_report(fields_report(answer), ints, floats)

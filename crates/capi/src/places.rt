@@ -12,7 +12,7 @@ use symbology::figures::Figures;
 use symbology::figures::Geometry;
 use symbology::figures::Packet;
 ghost use mathlib.Core.Path.{_≡_};
-ghost use Rattle.capi.specs.Places.{pair, placed, noHead, noPicture, noScale, headPlaces, packetNumber, rangeScale, gateWidth, firstGate, picturePlaces, linearPlaces, ceilingNumber, precipPlaces, declaredPlaces, fields, figures, linear, precip, sweep};
+ghost use Rattle.capi.specs.Places.{placed, noHead, noPicture, noScale, headPlaces, packetNumber, rangeScale, gateWidth, firstGate, picturePlaces, linearPlaces, ceilingNumber, precipPlaces, declaredPlaces, fieldsReport, figuresReport, linearReport, precipReport, sweepReport};
 
 pub struct HeadPlaces {
     pub token: u64,
@@ -255,31 +255,31 @@ fn declared_places(declared: Declared) -> ScalePlaces
 }
 
 pub(crate) fn of_fields(f: PdbFields) -> Report
-    ensures { λ r. ⌜ r ≡ fields f ⌝ }
+    ensures { λ r. ⌜ r ≡ fieldsReport f ⌝ }
 {
     placed_report(head_places(0, f, 0), no_picture(), no_scale())
 }
 
 pub(crate) fn of_figures(f: Figures) -> Report
-    ensures { λ r. ⌜ r ≡ figures f ⌝ }
+    ensures { λ r. ⌜ r ≡ figuresReport f ⌝ }
 {
     placed_report(no_head(), picture_places(f), no_scale())
 }
 
 pub(crate) fn of_linear(s: LinearScale) -> Report
-    ensures { λ r. ⌜ r ≡ linear s ⌝ }
+    ensures { λ r. ⌜ r ≡ linearReport s ⌝ }
 {
     placed_report(no_head(), no_picture(), linear_places(s))
 }
 
 pub(crate) fn of_precip(p: PrecipScale) -> Report
-    ensures { λ r. ⌜ r ≡ precip p ⌝ }
+    ensures { λ r. ⌜ r ≡ precipReport p ⌝ }
 {
     placed_report(no_head(), no_picture(), precip_places(p))
 }
 
 pub(crate) fn of_sweep(s: Sweep) -> Report
-    ensures { λ r. ⌜ r ≡ sweep s ⌝ }
+    ensures { λ r. ⌜ r ≡ sweepReport s ⌝ }
 {
     let fields = s.fields;
     let figures = s.figures;

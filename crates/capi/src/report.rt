@@ -5,9 +5,8 @@ use bytes::error::XdrItem;
 ghost use mathlib.Core.Path.{_≡_};
 ghost use mathlib.Core.List.{[], _∷_};
 ghost use mathlib.Core.Bool.{cond};
-ghost use lib.ListN.{length, set};
 ghost use Rattle.bytes.specs.Refusal.{refusalOf};
-ghost use Rattle.capi.specs.Report.{word, itemNumber, bufferNumber, report, refusalReport, withPosition, said, failed, short, Leaves};
+ghost use Rattle.capi.specs.Report.{word, itemNumber, bufferNumber, report, refusalReport, withPosition, said, short, Leaves};
 
 // 0 and an accepted value's places, or a refusal's number and its values. Other places hold 0.
 pub struct Report {

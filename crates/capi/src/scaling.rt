@@ -13,11 +13,11 @@ ghost use Rattle.head.specs.Outcome.{place};
 ghost use Rattle.scale.specs.Outcome.{linearOf, precipOf};
 ghost use Rattle.scale.specs.Pdb.{valueScalingLinearHw, valueScalingFloat, precipFamilyScale};
 ghost use Rattle.capi.specs.Report.{reportOf, said, saying, roomFirst, Leaves, lentBy, plainNumber, plainAfter};
-ghost use Rattle.capi.specs.Places.{nothing, linear, precip};
+ghost use Rattle.capi.specs.Places.{noReport, linearReport, precipReport};
 ghost use Rattle.capi.specs.Entries.{thresholdSaid, levelsSaid};
 
 fn linear_report(r: LinearScaleRead) -> Report
-    ensures { λ x. ⌜ x ≡ reportOf linear (linearOf r) ⌝ }
+    ensures { λ x. ⌜ x ≡ reportOf (linearOf r) linearReport ⌝ }
 {
     match r {
         LinearScaleRead::Value(s) => crate::places::of_linear(s),
@@ -26,7 +26,7 @@ fn linear_report(r: LinearScaleRead) -> Report
 }
 
 fn precip_report(r: PrecipScaleRead) -> Report
-    ensures { λ x. ⌜ x ≡ reportOf precip (precipOf r) ⌝ }
+    ensures { λ x. ⌜ x ≡ reportOf (precipOf r) precipReport ⌝ }
 {
     match r {
         PrecipScaleRead::Value(p) => crate::places::of_precip(p),
@@ -35,7 +35,7 @@ fn precip_report(r: PrecipScaleRead) -> Report
 }
 
 fn found_report(r: Place) -> Report
-    ensures { λ x. ⌜ x ≡ reportOf nothing (place r) ⌝ }
+    ensures { λ x. ⌜ x ≡ reportOf (place r) noReport ⌝ }
 {
     match r {
         Place::At(_) => wholes(0, 0, 0, 0, 0),
@@ -45,7 +45,7 @@ fn found_report(r: Place) -> Report
 
 #[no_mangle]
 pub extern "C" fn l3_linear(file: &[u8], block: usize, ints: &mut [u64], floats: &mut [f64]) -> u32
-    ensures { λ r. ⌜ Leaves (said (reportOf linear (valueScalingLinearHw (now (file .entry)) block))) r (now (ints .entry)) (now (ints .exit)) (now (floats .entry)) (now (floats .exit)) ⌝ }
+    ensures { λ r. ⌜ Leaves (said (reportOf (valueScalingLinearHw (now (file .entry)) block) linearReport)) r (now (ints .entry)) (now (ints .exit)) (now (floats .entry)) (now (floats .exit)) ⌝ }
 {
     let answer = scale::pdb::value_scaling_linear_hw(file, block);
     write_report(linear_report(answer), ints, floats)
@@ -53,7 +53,7 @@ pub extern "C" fn l3_linear(file: &[u8], block: usize, ints: &mut [u64], floats:
 
 #[no_mangle]
 pub extern "C" fn l3_float(file: &[u8], block: usize, ints: &mut [u64], floats: &mut [f64]) -> u32
-    ensures { λ r. ⌜ Leaves (said (reportOf linear (valueScalingFloat (now (file .entry)) block))) r (now (ints .entry)) (now (ints .exit)) (now (floats .entry)) (now (floats .exit)) ⌝ }
+    ensures { λ r. ⌜ Leaves (said (reportOf (valueScalingFloat (now (file .entry)) block) linearReport)) r (now (ints .entry)) (now (ints .exit)) (now (floats .entry)) (now (floats .exit)) ⌝ }
 {
     let answer = scale::pdb::value_scaling_float(file, block);
     write_report(linear_report(answer), ints, floats)
@@ -67,7 +67,7 @@ pub extern "C" fn l3_precip(
     ints: &mut [u64],
     floats: &mut [f64],
 ) -> u32
-    ensures { λ r. ⌜ Leaves (said (reportOf precip (precipFamilyScale (now (file .entry)) block factor))) r (now (ints .entry)) (now (ints .exit)) (now (floats .entry)) (now (floats .exit)) ⌝ }
+    ensures { λ r. ⌜ Leaves (said (reportOf (precipFamilyScale (now (file .entry)) block factor) precipReport)) r (now (ints .entry)) (now (ints .exit)) (now (floats .entry)) (now (floats .exit)) ⌝ }
 {
     let answer = scale::pdb::precip_family_scale(file, block, factor);
     write_report(precip_report(answer), ints, floats)
@@ -94,7 +94,7 @@ pub extern "C" fn l3_threshold(
     ints: &mut [u64],
     floats: &mut [f64],
 ) -> u32
-    ensures { λ r. ⌜ Leaves (saying (reportOf nothing) (thresholdSaid (now (file .entry)) block (length (now (thresholds .entry))))) r (now (ints .entry)) (now (ints .exit)) (now (floats .entry)) (now (floats .exit)) ⌝ }
+    ensures { λ r. ⌜ Leaves (saying (λ a. reportOf a noReport) (thresholdSaid (now (file .entry)) block (length (now (thresholds .entry))))) r (now (ints .entry)) (now (ints .exit)) (now (floats .entry)) (now (floats .exit)) ⌝ }
     ensures { λ _. ⌜ now (thresholds .exit) ≡ lentBy (roomFirst (now (ints .entry)) (now (floats .entry)) (thresholdSaid (now (file .entry)) block (length (now (thresholds .entry))))) (λ k. take 32 (drop k (now (file .entry)))) (now (thresholds .entry)) ⌝ }
 {
     if is_short(ints.len(), floats.len()) {

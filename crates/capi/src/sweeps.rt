@@ -9,7 +9,7 @@ ghost use mathlib.Core.Path.{_≡_};
 ghost use lib.ListN.{length};
 ghost use Rattle.sweep.specs.Sweep.{answerOf, sweepIn};
 ghost use Rattle.capi.specs.Report.{reportOf, saying, roomFirst, Leaves, lentBy};
-ghost use Rattle.capi.specs.Places.{sweep};
+ghost use Rattle.capi.specs.Places.{sweepReport};
 ghost use Rattle.capi.specs.Entries.{schemeSaid, sweepSaid, askedOf};
 
 // The scheme that is asked for.
@@ -42,7 +42,7 @@ fn scheme_of(number: u32, parameter: f32) -> Asked
 }
 
 fn sweep_report(r: SweepAnswer) -> Report
-    ensures { λ x. ⌜ x ≡ reportOf sweep (answerOf r) ⌝ }
+    ensures { λ x. ⌜ x ≡ reportOf (answerOf r) sweepReport ⌝ }
 {
     match r {
         SweepAnswer::Accepted(s) => crate::places::of_sweep(s),
@@ -63,7 +63,7 @@ pub extern "C" fn l3_sweep(
     ints: &mut [u64],
     floats: &mut [f64],
 ) -> u32
-    ensures { λ r. ⌜ Leaves (saying (λ a. reportOf sweep (sweepIn a)) (sweepSaid scheme parameter (now (file .entry)) clock (now (body .entry)) (length (now (azimuths .entry))) (length (now (codes .entry))) (length (now (physical .entry))))) r (now (ints .entry)) (now (ints .exit)) (now (floats .entry)) (now (floats .exit)) ⌝ }
+    ensures { λ r. ⌜ Leaves (saying (λ a. reportOf (sweepIn a) sweepReport) (sweepSaid scheme parameter (now (file .entry)) clock (now (body .entry)) (length (now (azimuths .entry))) (length (now (codes .entry))) (length (now (physical .entry))))) r (now (ints .entry)) (now (ints .exit)) (now (floats .entry)) (now (floats .exit)) ⌝ }
     ensures { λ _. ⌜ now (azimuths .exit) ≡ lentBy (roomFirst (now (ints .entry)) (now (floats .entry)) (sweepSaid scheme parameter (now (file .entry)) clock (now (body .entry)) (length (now (azimuths .entry))) (length (now (codes .entry))) (length (now (physical .entry))))) (λ p. p .azimuths) (now (azimuths .entry)) ⌝ }
     ensures { λ _. ⌜ now (codes .exit) ≡ lentBy (roomFirst (now (ints .entry)) (now (floats .entry)) (sweepSaid scheme parameter (now (file .entry)) clock (now (body .entry)) (length (now (azimuths .entry))) (length (now (codes .entry))) (length (now (physical .entry))))) (λ p. p .codes) (now (codes .entry)) ⌝ }
     ensures { λ _. ⌜ now (physical .exit) ≡ lentBy (roomFirst (now (ints .entry)) (now (floats .entry)) (sweepSaid scheme parameter (now (file .entry)) clock (now (body .entry)) (length (now (azimuths .entry))) (length (now (codes .entry))) (length (now (physical .entry))))) (λ p. p .physical) (now (physical .entry)) ⌝ }

@@ -1,5 +1,5 @@
 use Rattle.symbology.specs.Answers.{checkOf}
-use Rattle.capi.specs.Places.{nothing}
+use Rattle.capi.specs.Places.{noReport}
 use Rattle.capi.proofs.Answers.{arm}
 use borrow.Author.Needs.{needs}
 use Rattle.capi.proofs.body.check_report.Statement.{statement}
@@ -18,10 +18,10 @@ refusal-report-requires : tie.Need-refusal-report-requires
 refusal-report-requires c κs = search needs
 
 returns : tie.Need-returns
-returns c = arm nothing checkOf (c .wholes .ensures) (c .before .enum-told .given .1)
+returns c = arm noReport checkOf (c .wholes .ensures) (c .before .enum-told .given .1)
 
 returns-2 : tie.Need-returns-2
-returns-2 c = arm nothing checkOf (c .refusal-report .ensures) (c .before .before .r .given .1)
+returns-2 c = arm noReport checkOf (c .refusal-report .ensures) (c .before .before .r .given .1)
 
 pub check-report-spec : {M : Type 1} → statement M
 check-report-spec =

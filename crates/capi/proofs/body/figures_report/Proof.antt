@@ -1,5 +1,5 @@
 use Rattle.symbology.specs.Answers.{figuresOf}
-use Rattle.capi.specs.Places.{figures}
+use Rattle.capi.specs.Places.{figuresReport}
 use Rattle.capi.proofs.Answers.{arm}
 use borrow.Author.Needs.{needs}
 use Rattle.capi.proofs.body.figures_report.Statement.{statement}
@@ -18,10 +18,10 @@ refusal-report-requires : tie.Need-refusal-report-requires
 refusal-report-requires c κs = search needs
 
 returns : tie.Need-returns
-returns c = arm figures figuresOf (c .of-figures .ensures) (c .before .before .r .given .1)
+returns c = arm figuresReport figuresOf (c .of-figures .ensures) (c .before .before .r .given .1)
 
 returns-2 : tie.Need-returns-2
-returns-2 c = arm figures figuresOf (c .refusal-report .ensures) (c .before .before .r2 .given .1)
+returns-2 c = arm figuresReport figuresOf (c .refusal-report .ensures) (c .before .before .r2 .given .1)
 
 pub figures-report-spec : {M : Type 1} → statement M
 figures-report-spec =

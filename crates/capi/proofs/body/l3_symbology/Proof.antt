@@ -1,5 +1,5 @@
 use mathlib.Core.Path.{sym, ap, _∙_}
-use Rattle.capi.specs.Places.{figures}
+use Rattle.capi.specs.Places.{figuresReport}
 use Rattle.capi.specs.Report.{reportOf}
 use Rattle.capi.proofs.Answers.{by-report}
 use Rattle.capi.proofs.Reports.{none-left}
@@ -36,7 +36,7 @@ same-length-4 c = search needs
 
 returns-2 : tie.Need-returns-2
 returns-2 c = let t = sym (c .before .before .before .before .before .before .before .before .before .before .before .before .before .before .before .before .is-short .ensures) ∙ c .before .before .before .before .before .before .before .before .before .before .before .before .before .before .before .if1 .left in
-    (by-report (c .before .before .before .before .before .before .before .figures-report .ensures ∙ ap (reportOf figures) (c .before .before .before .before .before .before .before .before .before .before .before .before .decode-symbology .ensures .0)) (c .before .before .before .before .write-report .ensures), (simp t (c .before .before .before .before .before .before .before .before .before .before .before .before .decode-symbology .ensures .1 .0), simp t (c .before .before .before .before .before .before .before .before .before .before .before .before .decode-symbology .ensures .1 .1)))
+    (by-report (c .before .before .before .before .before .before .before .figures-report .ensures ∙ ap (λ a. reportOf a figuresReport) (c .before .before .before .before .before .before .before .before .before .before .before .before .decode-symbology .ensures .0)) (c .before .before .before .before .write-report .ensures), (simp t (c .before .before .before .before .before .before .before .before .before .before .before .before .decode-symbology .ensures .1 .0), simp t (c .before .before .before .before .before .before .before .before .before .before .before .before .decode-symbology .ensures .1 .1)))
 
 pub l3-symbology-spec : {M : Type 1} → statement M
 l3-symbology-spec =

@@ -2,7 +2,6 @@
 use Rattle.capi.proofs.Copied.{Copied, copied-first, copied-turn, copied-end}
 use Prim.Native.Nat.{_-_}
 use lib.ListN.{length}
-use native.Mathlib.Omega.{arith}
 use borrow.Author.Needs.{needs}
 use Rattle.capi.proofs.copies.copy_f32.Statement.{statement}
 use Rattle.capi.proofs.copies.copy_f32.Tie as tie

@@ -2,7 +2,7 @@ use Rattle.head.specs.Header.{scanTime}
 use mir.Facts.{toZ-ofZ}
 use mir.Syntax.{w32}
 use mathlib.Core.Path.{_∙_, ap}
-use Rattle.capi.specs.Places.{number}
+use Rattle.capi.specs.Places.{numberReport}
 use Rattle.capi.specs.Report.{reportOf}
 use Rattle.capi.proofs.Answers.{by-report}
 use borrow.Author.Needs.{needs}
@@ -25,7 +25,7 @@ same-length-2 : tie.Need-same-length-2
 same-length-2 c = search needs
 
 returns : tie.Need-returns
-returns c = by-report (c .before .before .before .before .before .before .before .time-report .ensures ∙ ap (reportOf number) (c .before .before .before .before .before .before .before .before .scan-time .ensures ∙ ap (λ z. scanTime (c .before .before .before .before .before .before .before .before .before .before .before .args .days) z (c .before .before .before .before .before .before .before .before .before .before .before .args .clock)) (toZ-ofZ {w = w32} {z = c .before .before .before .before .before .before .before .before .before .before .before .args .seconds} (search needs)))) (c .before .before .before .before .write-report .ensures)
+returns c = by-report (c .before .before .before .before .before .before .before .time-report .ensures ∙ ap (λ a. reportOf a numberReport) (c .before .before .before .before .before .before .before .before .scan-time .ensures ∙ ap (λ z. scanTime (c .before .before .before .before .before .before .before .before .before .before .before .args .days) z (c .before .before .before .before .before .before .before .before .before .before .before .args .clock)) (toZ-ofZ {w = w32} {z = c .before .before .before .before .before .before .before .before .before .before .before .args .seconds} (search needs)))) (c .before .before .before .before .write-report .ensures)
 
 pub l3-scan-time-spec : {M : Type 1} → statement M
 l3-scan-time-spec =

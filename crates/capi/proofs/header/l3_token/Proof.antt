@@ -1,5 +1,5 @@
 use mathlib.Core.Path.{_∙_, ap}
-use Rattle.capi.specs.Places.{number}
+use Rattle.capi.specs.Places.{numberReport}
 use Rattle.capi.specs.Report.{reportOf}
 use Rattle.capi.proofs.Answers.{by-report}
 use borrow.Author.Needs.{needs}
@@ -22,7 +22,7 @@ same-length-2 : tie.Need-same-length-2
 same-length-2 c = search needs
 
 returns : tie.Need-returns
-returns c = by-report (c .before .before .before .before .before .before .before .place-report .ensures ∙ ap (reportOf number) (c .before .before .before .before .before .before .before .before .find-awips-token .ensures)) (c .before .before .before .before .write-report .ensures)
+returns c = by-report (c .before .before .before .before .before .before .before .place-report .ensures ∙ ap (λ a. reportOf a numberReport) (c .before .before .before .before .before .before .before .before .find-awips-token .ensures)) (c .before .before .before .before .write-report .ensures)
 
 pub l3-token-spec : {M : Type 1} → statement M
 l3-token-spec =

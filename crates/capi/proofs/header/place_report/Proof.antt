@@ -1,5 +1,5 @@
 use Rattle.head.specs.Outcome.{place}
-use Rattle.capi.specs.Places.{number}
+use Rattle.capi.specs.Places.{numberReport}
 use Rattle.capi.proofs.Answers.{arm}
 use borrow.Author.Needs.{needs}
 use Rattle.capi.proofs.header.place_report.Statement.{statement}
@@ -18,10 +18,10 @@ refusal-report-requires : tie.Need-refusal-report-requires
 refusal-report-requires c κs = search needs
 
 returns : tie.Need-returns
-returns c = arm number place (c .wholes .ensures) (c .before .before .r .given .1)
+returns c = arm numberReport place (c .wholes .ensures) (c .before .before .r .given .1)
 
 returns-2 : tie.Need-returns-2
-returns-2 c = arm number place (c .refusal-report .ensures) (c .before .before .r2 .given .1)
+returns-2 c = arm numberReport place (c .refusal-report .ensures) (c .before .before .r2 .given .1)
 
 pub place-report-spec : {M : Type 1} → statement M
 place-report-spec =

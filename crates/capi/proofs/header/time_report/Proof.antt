@@ -1,5 +1,5 @@
 use Rattle.head.specs.Outcome.{time}
-use Rattle.capi.specs.Places.{number}
+use Rattle.capi.specs.Places.{numberReport}
 use Rattle.capi.proofs.Answers.{arm}
 use borrow.Author.Needs.{needs}
 use Rattle.capi.proofs.header.time_report.Statement.{statement}
@@ -18,10 +18,10 @@ refusal-report-requires : tie.Need-refusal-report-requires
 refusal-report-requires c κs = search needs
 
 returns : tie.Need-returns
-returns c = arm number time (c .wholes .ensures) (c .before .before .r .given .1)
+returns c = arm numberReport time (c .wholes .ensures) (c .before .before .r .given .1)
 
 returns-2 : tie.Need-returns-2
-returns-2 c = arm number time (c .refusal-report .ensures) (c .before .before .r2 .given .1)
+returns-2 c = arm numberReport time (c .refusal-report .ensures) (c .before .before .r2 .given .1)
 
 pub time-report-spec : {M : Type 1} → statement M
 time-report-spec =

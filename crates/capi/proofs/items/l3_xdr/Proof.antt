@@ -1,8 +1,7 @@
 use mathlib.Core.Path.{_∙_, ap, sym}
 use native.Mathlib.Omega.{arith}
-use mathlib.Core.Path.{_∙_, ap}
 use Rattle.xdr.proofs.Lists.{after-passed}
-use Rattle.capi.specs.Places.{nothing, number, signedNumber, float, part}
+use Rattle.capi.specs.Places.{noReport, numberReport, signedReport, floatReport, partReport}
 use Rattle.capi.specs.Report.{endedReport, choice}
 use Rattle.capi.proofs.Answers.{by-report, unknown}
 use borrow.Author.Needs.{needs}
@@ -26,7 +25,7 @@ same-length-2 c = search needs
 
 returns : tie.Need-returns
 unfolding choice
-returns c = rw (c .before .before .before .before .before .before .before .before .before .if1 .taken) (by-report (c .before .before .before .before .before .before .before .int-report .ensures ∙ ap (endedReport signedNumber) (c .before .before .before .before .before .before .before .before .unpack-int .ensures)) (c .before .before .before .before .write-report .ensures))
+returns c = rw (c .before .before .before .before .before .before .before .before .before .if1 .taken) (by-report (c .before .before .before .before .before .before .before .int-report .ensures ∙ ap (λ a. endedReport a signedReport) (c .before .before .before .before .before .before .before .before .unpack-int .ensures)) (c .before .before .before .before .write-report .ensures))
 
 unpack-uint-requires : tie.Need-unpack-uint-requires
 unpack-uint-requires c κs = search needs
@@ -45,7 +44,7 @@ same-length-4 c = search needs
 
 returns-2 : tie.Need-returns-2
 unfolding choice
-returns-2 c = rw (c .before .before .before .before .before .before .before .before .before .if2 .taken) (by-report (c .before .before .before .before .before .before .before .uint-report .ensures ∙ ap (endedReport number) (c .before .before .before .before .before .before .before .before .unpack-uint .ensures)) (c .before .before .before .before .write-report2 .ensures))
+returns-2 c = rw (c .before .before .before .before .before .before .before .before .before .if2 .taken) (by-report (c .before .before .before .before .before .before .before .uint-report .ensures ∙ ap (λ a. endedReport a numberReport) (c .before .before .before .before .before .before .before .before .unpack-uint .ensures)) (c .before .before .before .before .write-report2 .ensures))
 
 unpack-float-requires : tie.Need-unpack-float-requires
 unpack-float-requires c κs = search needs
@@ -64,7 +63,7 @@ same-length-6 c = search needs
 
 returns-3 : tie.Need-returns-3
 unfolding choice
-returns-3 c = rw (c .before .before .before .before .before .before .before .before .before .if3 .taken) (by-report (c .before .before .before .before .before .before .before .float-report .ensures ∙ ap (endedReport float) (c .before .before .before .before .before .before .before .before .unpack-float .ensures)) (c .before .before .before .before .write-report3 .ensures))
+returns-3 c = rw (c .before .before .before .before .before .before .before .before .before .if3 .taken) (by-report (c .before .before .before .before .before .before .before .float-report .ensures ∙ ap (λ a. endedReport a floatReport) (c .before .before .before .before .before .before .before .before .unpack-float .ensures)) (c .before .before .before .before .write-report3 .ensures))
 
 unpack-string-requires : tie.Need-unpack-string-requires
 unpack-string-requires c κs = search needs
@@ -83,7 +82,7 @@ same-length-8 c = search needs
 
 returns-4 : tie.Need-returns-4
 unfolding choice
-returns-4 c = rw (c .before .before .before .before .before .before .before .before .before .if4 .taken) (by-report (c .before .before .before .before .before .before .before .part-report .ensures ∙ ap (endedReport part) (c .before .before .before .before .before .before .before .before .unpack-string .ensures)) (c .before .before .before .before .write-report4 .ensures))
+returns-4 c = rw (c .before .before .before .before .before .before .before .before .before .if4 .taken) (by-report (c .before .before .before .before .before .before .before .part-report .ensures ∙ ap (λ a. endedReport a partReport) (c .before .before .before .before .before .before .before .before .unpack-string .ensures)) (c .before .before .before .before .write-report4 .ensures))
 
 unpack-int-array-requires : tie.Need-unpack-int-array-requires
 unpack-int-array-requires c κs = search needs
@@ -102,7 +101,7 @@ same-length-10 c = search needs
 
 returns-5 : tie.Need-returns-5
 unfolding choice
-returns-5 c = rw (c .before .before .before .before .before .before .before .before .before .if5 .taken) (by-report (c .before .before .before .before .before .before .before .part-report2 .ensures ∙ ap (endedReport part) (c .before .before .before .before .before .before .before .before .unpack-int-array .ensures)) (c .before .before .before .before .write-report5 .ensures))
+returns-5 c = rw (c .before .before .before .before .before .before .before .before .before .if5 .taken) (by-report (c .before .before .before .before .before .before .before .part-report2 .ensures ∙ ap (λ a. endedReport a partReport) (c .before .before .before .before .before .before .before .before .unpack-int-array .ensures)) (c .before .before .before .before .write-report5 .ensures))
 
 skip-parameters-requires : tie.Need-skip-parameters-requires
 skip-parameters-requires c κs = search needs
@@ -121,7 +120,7 @@ same-length-12 c = search needs
 
 returns-6 : tie.Need-returns-6
 unfolding choice
-returns-6 c = rw (c .before .before .before .before .before .before .before .before .before .if6 .taken) (by-report (c .before .before .before .before .before .before .before .step-report .ensures ∙ ap (endedReport nothing) (c .before .before .before .before .before .before .before .before .skip-parameters .ensures ∙ sym (after-passed _ _ _))) (c .before .before .before .before .write-report6 .ensures))
+returns-6 c = rw (c .before .before .before .before .before .before .before .before .before .if6 .taken) (by-report (c .before .before .before .before .before .before .before .step-report .ensures ∙ ap (λ a. endedReport a noReport) (c .before .before .before .before .before .before .before .before .skip-parameters .ensures ∙ sym (after-passed _ _ _))) (c .before .before .before .before .write-report6 .ensures))
 
 bad-argument-requires : tie.Need-bad-argument-requires
 bad-argument-requires c κs = search needs

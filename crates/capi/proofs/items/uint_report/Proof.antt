@@ -1,6 +1,6 @@
 use mathlib.Core.Path.{_∙_, ap}
 use Rattle.xdr.specs.Answers.{uintOf}
-use Rattle.capi.specs.Places.{number}
+use Rattle.capi.specs.Places.{numberReport}
 use Rattle.capi.specs.Report.{withPosition}
 use Rattle.capi.proofs.Answers.{ended-arm}
 use borrow.Author.Needs.{needs}
@@ -29,10 +29,10 @@ with-position-requires-2 : tie.Need-with-position-requires-2
 with-position-requires-2 c κs = search needs
 
 returns : tie.Need-returns
-returns c = ended-arm number uintOf (c .with-position .ensures ∙ ap (λ x. withPosition x (c .before .before .before .r .given .0 .1 .0)) (c .before .wholes .ensures)) (c .before .before .before .r .given .1)
+returns c = ended-arm numberReport uintOf (c .with-position .ensures ∙ ap (λ x. withPosition x (c .before .before .before .r .given .0 .1 .0)) (c .before .wholes .ensures)) (c .before .before .before .r .given .1)
 
 returns-2 : tie.Need-returns-2
-returns-2 c = ended-arm number uintOf (c .with-position2 .ensures ∙ ap (λ x. withPosition x (c .before .before .before .r2 .given .0 .1 .0)) (c .before .refusal-report .ensures)) (c .before .before .before .r2 .given .1)
+returns-2 c = ended-arm numberReport uintOf (c .with-position2 .ensures ∙ ap (λ x. withPosition x (c .before .before .before .r2 .given .0 .1 .0)) (c .before .refusal-report .ensures)) (c .before .before .before .r2 .given .1)
 
 pub uint-report-spec : {M : Type 1} → statement M
 uint-report-spec =

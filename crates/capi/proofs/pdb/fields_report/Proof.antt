@@ -1,5 +1,5 @@
 use Rattle.head.specs.Outcome.{fieldsOf}
-use Rattle.capi.specs.Places.{fields}
+use Rattle.capi.specs.Places.{fieldsReport}
 use Rattle.capi.proofs.Answers.{arm}
 use borrow.Author.Needs.{needs}
 use Rattle.capi.proofs.pdb.fields_report.Statement.{statement}
@@ -18,10 +18,10 @@ refusal-report-requires : tie.Need-refusal-report-requires
 refusal-report-requires c κs = search needs
 
 returns : tie.Need-returns
-returns c = arm fields fieldsOf (c .of-fields .ensures) (c .before .before .r .given .1)
+returns c = arm fieldsReport fieldsOf (c .of-fields .ensures) (c .before .before .r .given .1)
 
 returns-2 : tie.Need-returns-2
-returns-2 c = arm fields fieldsOf (c .refusal-report .ensures) (c .before .before .r2 .given .1)
+returns-2 c = arm fieldsReport fieldsOf (c .refusal-report .ensures) (c .before .before .r2 .given .1)
 
 pub fields-report-spec : {M : Type 1} → statement M
 fields-report-spec =

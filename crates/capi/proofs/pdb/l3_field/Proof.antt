@@ -1,6 +1,6 @@
 use native.Mathlib.Omega.{arith}
 use mathlib.Core.Path.{_∙_, ap}
-use Rattle.capi.specs.Places.{number, signedNumber, pair}
+use Rattle.capi.specs.Places.{numberReport, signedReport, pairReport}
 use Rattle.capi.specs.Report.{reportOf, choice}
 use Rattle.capi.proofs.Answers.{by-report, unknown}
 use borrow.Author.Needs.{needs}
@@ -24,7 +24,7 @@ same-length-2 c = search needs
 
 returns : tie.Need-returns
 unfolding choice
-returns c = rw (c .before .before .before .before .before .before .before .before .before .if1 .taken) (by-report (c .before .before .before .before .before .before .before .i16-report .ensures ∙ ap (reportOf signedNumber) (c .before .before .before .before .before .before .before .before .hw-i16 .ensures)) (c .before .before .before .before .write-report .ensures))
+returns c = rw (c .before .before .before .before .before .before .before .before .before .if1 .taken) (by-report (c .before .before .before .before .before .before .before .i16-report .ensures ∙ ap (λ a. reportOf a signedReport) (c .before .before .before .before .before .before .before .before .hw-i16 .ensures)) (c .before .before .before .before .write-report .ensures))
 
 hw-u16-requires : tie.Need-hw-u16-requires
 hw-u16-requires c κs = search needs
@@ -43,7 +43,7 @@ same-length-4 c = search needs
 
 returns-2 : tie.Need-returns-2
 unfolding choice
-returns-2 c = rw (c .before .before .before .before .before .before .before .before .before .if2 .taken) (by-report (c .before .before .before .before .before .before .before .u16-report .ensures ∙ ap (reportOf number) (c .before .before .before .before .before .before .before .before .hw-u16 .ensures)) (c .before .before .before .before .write-report2 .ensures))
+returns-2 c = rw (c .before .before .before .before .before .before .before .before .before .if2 .taken) (by-report (c .before .before .before .before .before .before .before .u16-report .ensures ∙ ap (λ a. reportOf a numberReport) (c .before .before .before .before .before .before .before .before .hw-u16 .ensures)) (c .before .before .before .before .write-report2 .ensures))
 
 hw-i32-requires : tie.Need-hw-i32-requires
 hw-i32-requires c κs = search needs
@@ -62,7 +62,7 @@ same-length-6 c = search needs
 
 returns-3 : tie.Need-returns-3
 unfolding choice
-returns-3 c = rw (c .before .before .before .before .before .before .before .before .before .if3 .taken) (by-report (c .before .before .before .before .before .before .before .i32-report .ensures ∙ ap (reportOf signedNumber) (c .before .before .before .before .before .before .before .before .hw-i32 .ensures)) (c .before .before .before .before .write-report3 .ensures))
+returns-3 c = rw (c .before .before .before .before .before .before .before .before .before .if3 .taken) (by-report (c .before .before .before .before .before .before .before .i32-report .ensures ∙ ap (λ a. reportOf a signedReport) (c .before .before .before .before .before .before .before .before .hw-i32 .ensures)) (c .before .before .before .before .write-report3 .ensures))
 
 hw-f32-pair-requires : tie.Need-hw-f32-pair-requires
 hw-f32-pair-requires c κs = search needs
@@ -81,7 +81,7 @@ same-length-8 c = search needs
 
 returns-4 : tie.Need-returns-4
 unfolding choice
-returns-4 c = rw (c .before .before .before .before .before .before .before .before .before .if4 .taken) (by-report (c .before .before .before .before .before .before .before .pair-report .ensures ∙ ap (reportOf pair) (c .before .before .before .before .before .before .before .before .hw-f32-pair .ensures)) (c .before .before .before .before .write-report4 .ensures))
+returns-4 c = rw (c .before .before .before .before .before .before .before .before .before .if4 .taken) (by-report (c .before .before .before .before .before .before .before .pair-report .ensures ∙ ap (λ a. reportOf a pairReport) (c .before .before .before .before .before .before .before .before .hw-f32-pair .ensures)) (c .before .before .before .before .write-report4 .ensures))
 
 bad-argument-requires : tie.Need-bad-argument-requires
 bad-argument-requires c κs = search needs

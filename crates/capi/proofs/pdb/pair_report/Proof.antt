@@ -1,5 +1,5 @@
 use Rattle.head.specs.Outcome.{pairOf}
-use Rattle.capi.specs.Places.{pair}
+use Rattle.capi.specs.Places.{pairReport}
 use Rattle.capi.proofs.Answers.{arm}
 use borrow.Author.Needs.{needs}
 use Rattle.capi.proofs.pdb.pair_report.Statement.{statement}
@@ -18,10 +18,10 @@ refusal-report-requires : tie.Need-refusal-report-requires
 refusal-report-requires c κs = search needs
 
 returns : tie.Need-returns
-returns c = arm pair pairOf (c .of-pair .ensures) (c .before .before .r .given .1)
+returns c = arm pairReport pairOf (c .of-pair .ensures) (c .before .before .r .given .1)
 
 returns-2 : tie.Need-returns-2
-returns-2 c = arm pair pairOf (c .refusal-report .ensures) (c .before .before .r2 .given .1)
+returns-2 c = arm pairReport pairOf (c .refusal-report .ensures) (c .before .before .r2 .given .1)
 
 pub pair-report-spec : {M : Type 1} → statement M
 pair-report-spec =

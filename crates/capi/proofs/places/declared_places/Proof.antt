@@ -1,4 +1,4 @@
-use mathlib.Core.Path.{ap, sym, _∙_}
+use mathlib.Core.Path.{ap, sym}
 use Rattle.capi.specs.Places.{declaredPlaces}
 use borrow.Author.Needs.{needs}
 use Rattle.capi.proofs.places.declared_places.Statement.{statement}

@@ -1,9 +1,7 @@
 use mathlib.Core.Path.{refl, ap, _∙_}
 use Rattle.capi.specs.Report.{over}
 use lib.ListN.{length}
-use mathlib.Core.Path.{sym, ap, _∙_}
 use Rattle.capi.proofs.Answers.{codes-bad, codes-good}
-use Rattle.capi.specs.Report.{plainNumber, plainAfter}
 use borrow.Author.Needs.{needs}
 use Rattle.capi.proofs.products.l3_codes.Statement.{statement}
 use Rattle.capi.proofs.products.l3_codes.Tie as tie

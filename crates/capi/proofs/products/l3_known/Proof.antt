@@ -2,7 +2,6 @@ use mathlib.Core.Path.{sym, ap, _∙_}
 use Rattle.bytes.specs.Products.{known}
 use mir.Facts.{toZ-ofZ}
 use mir.Syntax.{w16}
-use mathlib.Core.Path.{sym, _∙_}
 use borrow.Author.Needs.{needs}
 use Rattle.capi.proofs.products.l3_known.Statement.{statement}
 use Rattle.capi.proofs.products.l3_known.Tie as tie

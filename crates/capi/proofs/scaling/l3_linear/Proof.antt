@@ -1,5 +1,5 @@
 use mathlib.Core.Path.{_∙_, ap}
-use Rattle.capi.specs.Places.{linear}
+use Rattle.capi.specs.Places.{linearReport}
 use Rattle.capi.specs.Report.{reportOf}
 use Rattle.capi.proofs.Answers.{by-report}
 use borrow.Author.Needs.{needs}
@@ -22,7 +22,7 @@ same-length-2 : tie.Need-same-length-2
 same-length-2 c = search needs
 
 returns : tie.Need-returns
-returns c = by-report (c .before .before .before .before .before .before .before .linear-report .ensures ∙ ap (reportOf linear) (c .before .before .before .before .before .before .before .before .value-scaling-linear-hw .ensures)) (c .before .before .before .before .write-report .ensures)
+returns c = by-report (c .before .before .before .before .before .before .before .linear-report .ensures ∙ ap (λ a. reportOf a linearReport) (c .before .before .before .before .before .before .before .before .value-scaling-linear-hw .ensures)) (c .before .before .before .before .write-report .ensures)
 
 pub l3-linear-spec : {M : Type 1} → statement M
 l3-linear-spec =

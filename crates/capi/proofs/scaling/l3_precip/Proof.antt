@@ -1,5 +1,5 @@
 use mathlib.Core.Path.{_∙_, ap}
-use Rattle.capi.specs.Places.{precip}
+use Rattle.capi.specs.Places.{precipReport}
 use Rattle.capi.specs.Report.{reportOf}
 use Rattle.capi.proofs.Answers.{by-report}
 use borrow.Author.Needs.{needs}
@@ -22,7 +22,7 @@ same-length-2 : tie.Need-same-length-2
 same-length-2 c = search needs
 
 returns : tie.Need-returns
-returns c = by-report (c .before .before .before .before .before .before .before .precip-report .ensures ∙ ap (reportOf precip) (c .before .before .before .before .before .before .before .before .precip-family-scale .ensures)) (c .before .before .before .before .write-report .ensures)
+returns c = by-report (c .before .before .before .before .before .before .before .precip-report .ensures ∙ ap (λ a. reportOf a precipReport) (c .before .before .before .before .before .before .before .before .precip-family-scale .ensures)) (c .before .before .before .before .write-report .ensures)
 
 pub l3-precip-spec : {M : Type 1} → statement M
 l3-precip-spec =

@@ -1,6 +1,6 @@
 use lib.ListN.{length}
 use mathlib.Core.Path.{refl, sym, ap, _∙_}
-use Rattle.capi.specs.Places.{nothing}
+use Rattle.capi.specs.Places.{noReport}
 use Rattle.capi.specs.Report.{reportOf}
 use Rattle.capi.proofs.Answers.{by-report, fails, threshold-bad, threshold-good, lent-thresholds}
 use Rattle.capi.proofs.Reports.{none-left}
@@ -41,7 +41,7 @@ same-length-3 c = search needs
 returns-3 : tie.Need-returns-3
 returns-3 c = let t = sym (c .before .before .before .before .before .before .before .before .before .before .before .before .before .before .before .before .before .is-short .ensures) ∙ c .before .before .before .before .before .before .before .before .before .before .before .before .before .before .before .before .if1 .left in
     rw (threshold-good _ _ (length (c .before .before .before .before .before .before .before .before .before .before .before .before .before .before .before .before .before .before .before .before .before .before .args .thresholds .now)) (c .before .before .before .before .before .before .before .before .before .before .before .before .before .before .before .if2 .left))
-    (by-report (c .before .before .before .before .before .before .before .found-report .ensures ∙ ap (reportOf nothing) (c .before .before .before .before .before .before .before .before .before .before .before .before .before .before .threshold-data .ensures .0)) (c .before .before .before .before .write-report .ensures), simp t (c .before .before .before .before .before .before .before .before .before .before .lend-thresholds .ensures ∙ lent-thresholds _ _ _ (c .before .before .before .before .before .before .before .before .before .before .before .before .before .before .threshold-data .ensures .0) (c .before .before .before .before .before .before .before .before .before .before .before .before .before .before .threshold-data .ensures .1)))
+    (by-report (c .before .before .before .before .before .before .before .found-report .ensures ∙ ap (λ a. reportOf a noReport) (c .before .before .before .before .before .before .before .before .before .before .before .before .before .before .threshold-data .ensures .0)) (c .before .before .before .before .write-report .ensures), simp t (c .before .before .before .before .before .before .before .before .before .before .lend-thresholds .ensures ∙ lent-thresholds _ _ _ (c .before .before .before .before .before .before .before .before .before .before .before .before .before .before .threshold-data .ensures .0) (c .before .before .before .before .before .before .before .before .before .before .before .before .before .before .threshold-data .ensures .1)))
 
 pub l3-threshold-spec : {M : Type 1} → statement M
 l3-threshold-spec =

@@ -1,5 +1,5 @@
 use Rattle.scale.specs.Outcome.{linearOf}
-use Rattle.capi.specs.Places.{linear}
+use Rattle.capi.specs.Places.{linearReport}
 use Rattle.capi.proofs.Answers.{arm}
 use borrow.Author.Needs.{needs}
 use Rattle.capi.proofs.scaling.linear_report.Statement.{statement}
@@ -18,10 +18,10 @@ refusal-report-requires : tie.Need-refusal-report-requires
 refusal-report-requires c κs = search needs
 
 returns : tie.Need-returns
-returns c = arm linear linearOf (c .of-linear .ensures) (c .before .before .r .given .1)
+returns c = arm linearReport linearOf (c .of-linear .ensures) (c .before .before .r .given .1)
 
 returns-2 : tie.Need-returns-2
-returns-2 c = arm linear linearOf (c .refusal-report .ensures) (c .before .before .r2 .given .1)
+returns-2 c = arm linearReport linearOf (c .refusal-report .ensures) (c .before .before .r2 .given .1)
 
 pub linear-report-spec : {M : Type 1} → statement M
 linear-report-spec =

@@ -1,5 +1,5 @@
 use Rattle.scale.specs.Outcome.{precipOf}
-use Rattle.capi.specs.Places.{precip}
+use Rattle.capi.specs.Places.{precipReport}
 use Rattle.capi.proofs.Answers.{arm}
 use borrow.Author.Needs.{needs}
 use Rattle.capi.proofs.scaling.precip_report.Statement.{statement}
@@ -18,10 +18,10 @@ refusal-report-requires : tie.Need-refusal-report-requires
 refusal-report-requires c κs = search needs
 
 returns : tie.Need-returns
-returns c = arm precip precipOf (c .of-precip .ensures) (c .before .before .r .given .1)
+returns c = arm precipReport precipOf (c .of-precip .ensures) (c .before .before .r .given .1)
 
 returns-2 : tie.Need-returns-2
-returns-2 c = arm precip precipOf (c .refusal-report .ensures) (c .before .before .r2 .given .1)
+returns-2 c = arm precipReport precipOf (c .refusal-report .ensures) (c .before .before .r2 .given .1)
 
 pub precip-report-spec : {M : Type 1} → statement M
 precip-report-spec =

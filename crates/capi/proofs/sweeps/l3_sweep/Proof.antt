@@ -1,6 +1,6 @@
 use mathlib.Core.Path.{refl, sym, ap, _∙_}
 use Rattle.capi.specs.Entries.{askedOf}
-use Rattle.capi.specs.Places.{sweep}
+use Rattle.capi.specs.Places.{sweepReport}
 use Rattle.capi.specs.Report.{reportOf}
 use Rattle.capi.proofs.Answers.{by-report, fails}
 use Rattle.capi.proofs.Reports.{none-left}
@@ -54,7 +54,7 @@ same-length-5 c = search needs
 returns-3 : tie.Need-returns-3
 returns-3 c = let t = sym (c .before .before .before .before .before .before .before .before .before .before .before .before .before .before .before .before .before .before .before .before .before .before .before .is-short .ensures) ∙ c .before .before .before .before .before .before .before .before .before .before .before .before .before .before .before .before .before .before .before .before .before .before .if1 .left in
     rw (sym (c .before .before .before .before .before .before .before .before .before .before .before .before .before .before .before .before .before .before .before .before .before .scheme-of .ensures) ∙ ap askedOf (c .before .before .before .before .before .before .before .before .before .before .before .before .before .before .before .before .before .before .before .s .given .1))
-    (by-report (c .before .before .before .before .before .before .before .sweep-report .ensures ∙ ap (reportOf sweep) (c .before .before .before .before .before .before .before .before .before .before .before .before .before .before .read-sweep .ensures .0)) (c .before .before .before .before .write-report .ensures), (simp t (c .before .before .before .before .before .before .before .before .before .before .before .before .before .before .read-sweep .ensures .1 .0), (simp t (c .before .before .before .before .before .before .before .before .before .before .before .before .before .before .read-sweep .ensures .1 .1 .0), simp t (c .before .before .before .before .before .before .before .before .before .before .before .before .before .before .read-sweep .ensures .1 .1 .1))))
+    (by-report (c .before .before .before .before .before .before .before .sweep-report .ensures ∙ ap (λ a. reportOf a sweepReport) (c .before .before .before .before .before .before .before .before .before .before .before .before .before .before .read-sweep .ensures .0)) (c .before .before .before .before .write-report .ensures), (simp t (c .before .before .before .before .before .before .before .before .before .before .before .before .before .before .read-sweep .ensures .1 .0), (simp t (c .before .before .before .before .before .before .before .before .before .before .before .before .before .before .read-sweep .ensures .1 .1 .0), simp t (c .before .before .before .before .before .before .before .before .before .before .before .before .before .before .read-sweep .ensures .1 .1 .1))))
 
 pub l3-sweep-spec : {M : Type 1} → statement M
 l3-sweep-spec =

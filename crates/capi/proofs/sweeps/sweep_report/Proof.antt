@@ -1,5 +1,5 @@
 use Rattle.sweep.specs.Sweep.{answerOf}
-use Rattle.capi.specs.Places.{sweep}
+use Rattle.capi.specs.Places.{sweepReport}
 use Rattle.capi.proofs.Answers.{arm}
 use borrow.Author.Needs.{needs}
 use Rattle.capi.proofs.sweeps.sweep_report.Statement.{statement}
@@ -18,10 +18,10 @@ refusal-report-requires : tie.Need-refusal-report-requires
 refusal-report-requires c κs = search needs
 
 returns : tie.Need-returns
-returns c = arm sweep answerOf (c .of-sweep .ensures) (c .before .before .r .given .1)
+returns c = arm sweepReport answerOf (c .of-sweep .ensures) (c .before .before .r .given .1)
 
 returns-2 : tie.Need-returns-2
-returns-2 c = arm sweep answerOf (c .refusal-report .ensures) (c .before .before .r2 .given .1)
+returns-2 c = arm sweepReport answerOf (c .refusal-report .ensures) (c .before .before .r2 .given .1)
 
 pub sweep-report-spec : {M : Type 1} → statement M
 sweep-report-spec =
