@@ -10,8 +10,8 @@ use lib.Ieee.{Float}
 use borrow.Author.Tests.{eqb-true, not-false, ltb-false}
 use Rattle.bytes.specs.Refusal.{Refusal}
 use Rattle.bytes.specs.Result.{accepted, refused}
-use Rattle.bytes.specs.Reading.{give, Ended, passed, halted, onward, walk}
-use Rattle.bytes.proofs.Readings.{walk-then, parts, parts-by, passed-check, walk-give}
+use Rattle.bytes.specs.Reading.{Flat, give, Ended, passed, halted, onward, walk}
+use Rattle.bytes.proofs.Readings.{walk-then, Parts, parts, parts-by, passed-check, walk-give}
 use Rattle.xdr.proofs.Items.{array-count-end}
 use Rattle.xdr.specs.Xdr.{atLeast0}
 use Rattle.symbology.specs.Symbology.{Strip, xdrFrame}
@@ -36,22 +36,27 @@ pub record Framed (radials r : ℕ) (expected : ℕ → ℕ) (s : List ℕ) (str
   pub inside : q ≤ length s
   pub cells : r ≡ 0 → radials * strip .bins ≤ 4000000
 
+-- the parts of a reading that passed, by name
+opened : {A B : Type 0} {f : A → Flat B} {t : Flat A} {s : List ℕ} {p : ℕ} {b : B} {q : ℕ} {C : Type 0} → Parts f t s p b q
+    → ((a : A) (m : ℕ) → passed a m ≡ walk t s p → passed b q ≡ walk (f a) s m → C) → C
+opened h k = k (h .value) (h .middle) (h .first) (h .second)
+
 pub framed : (radials r : ℕ) (expected : ℕ → ℕ) (s : List ℕ) (p : ℕ) (strip : Strip) (q : ℕ) → passed strip q ≡ walk (xdrFrame radials r expected) s p
     → Framed radials r expected s strip q
 unfolding xdrFrame
 framed radials r expected s p strip q e =
-    let a = parts _ _ s p e in
-    let b = parts-by _ _ s _ (a .second) in
-    let c = parts _ _ s _ (b .second) in
-    let d = parts _ _ s _ (c .second) in
-    let f = parts-by _ _ s _ (d .second) in
-    let g = parts _ _ s _ (f .second) in
-    let k = array-count-end s _ _ _ (g .first) in
-    let h₁ = passed-check _ _ _ s _ (g .second) in
-    let h₂ = passed-check _ _ _ s _ (h₁ .1) in
-    let h₃ = passed-check _ _ _ s _ (h₂ .1) in
-    let h₄ = passed-check _ _ _ s _ (h₃ .1) in
-    last (g .value) (atLeast0 (d .value)) (eqb-true _ _ (not-false _ (h₂ .0))) (eqb-true _ _ (not-false _ (h₃ .0))) (k .1) (k .2) (λ h. first-cells r (radials * atLeast0 (d .value)) h (h₄ .0)) (h₄ .1 ∙ walk-give _ s _)
+    opened (parts _ _ s p e) (λ azimuth m₁ _ e₁.
+    opened (parts-by _ _ s m₁ e₁) (λ _ m₂ _ e₂.
+    opened (parts _ _ s m₂ e₂) (λ width m₃ _ e₃.
+    opened (parts _ _ s m₃ e₃) (λ bins m₄ _ e₄.
+    opened (parts-by _ _ s m₄ e₄) (λ _ m₅ _ e₅.
+    opened (parts _ _ s m₅ e₅) (λ n m e₆ e₇.
+    let k = array-count-end s _ _ _ e₆ in
+    let h₁ = passed-check _ _ _ s m e₇ in
+    let h₂ = passed-check _ _ _ s m (h₁ .1) in
+    let h₃ = passed-check _ _ _ s m (h₂ .1) in
+    let h₄ = passed-check _ _ _ s m (h₃ .1) in
+    last n (atLeast0 bins) (eqb-true _ _ (not-false _ (h₂ .0))) (eqb-true _ _ (not-false _ (h₃ .0))) (k .1) (k .2) (λ h. first-cells r (radials * atLeast0 bins) h (h₄ .0)) (h₄ .1 ∙ walk-give _ s m)))))))
   where
     last : (n bins : ℕ) {m : ℕ} {azimuth : Float} → bins ≡ expected bins → n ≡ bins → n * 4 ≤ length s - m → m ≤ length s → (r ≡ 0 → radials * bins ≤ 4000000)
         → passed strip q ≡ passed (record { azimuth = azimuth; bins = bins }) m → Framed radials r expected s strip q
