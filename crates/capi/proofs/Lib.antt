@@ -1,0 +1,4 @@
+pub mod Copied
+pub mod Words
+pub mod Reports
+pub mod Answers

@@ -1,0 +1,28 @@
+use Rattle.capi.specs.Places.{gateWidth}
+use mathlib.Core.Path.{ap, sym}
+use Rattle.bytes.specs.Float.{f64}
+use lib.Ieee.{ofBits}
+use borrow.Author.Needs.{needs}
+use Rattle.capi.proofs.places.gate_width.Statement.{statement}
+use Rattle.capi.proofs.places.gate_width.Tie as tie
+
+enum-told : tie.Need-enum-told
+enum-told c = search needs
+
+enum-known-geometry : tie.Need-enum-known-geometry
+enum-known-geometry c = search needs
+
+f32-to-f64-with-nan-requires : tie.Need-f32-to-f64-with-nan-requires
+f32-to-f64-with-nan-requires c κs = search needs
+
+returns : tie.Need-returns
+unfolding f64 ofBits
+returns c = ap gateWidth (sym (c .enum-told .given .1))
+
+returns-2 : tie.Need-returns-2
+returns-2 c = search needs
+
+pub gate-width-spec : {M : Type 1} → statement M
+gate-width-spec =
+    tie.close
+    (tie.spec enum-told enum-known-geometry f32-to-f64-with-nan-requires returns returns-2)

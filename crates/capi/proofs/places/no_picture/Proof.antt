@@ -1,0 +1,12 @@
+use mathlib.Core.Path.{refl}
+use Rattle.bytes.specs.Float.{f64}
+use lib.Ieee.{ofBits}
+use Rattle.capi.proofs.places.no_picture.Statement.{statement}
+use Rattle.capi.proofs.places.no_picture.Tie as tie
+
+returns : tie.Need-returns
+unfolding f64 ofBits
+returns c = refl
+
+pub no-picture-spec : {M : Type 1} → statement M
+no-picture-spec = tie.close (tie.spec returns)

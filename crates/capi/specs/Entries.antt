@@ -1,0 +1,63 @@
+-- What the entries that take a kind, an item or an exact length have to say.
+use Prim.Native.Nat.{ℕ}
+use mathlib.Core.List.{List, [], _∷_}
+use mathlib.Core.Bool.{cond, _&&_}
+use lib.ListN.{length}
+use lib.Dec.{eqb}
+use lib.Ieee.{Float}
+use Rattle.bytes.specs.Reading.{walk}
+use Rattle.bytes.specs.Result.{Result}
+use Rattle.bytes.specs.Products.{codes}
+use Rattle.head.specs.Pdb.{hwI16, hwU16, hwI32, hwPair}
+use Rattle.scale.specs.Pdb.{thresholdPlace}
+use Rattle.scale.specs.Legacy.{levelsOf}
+use Rattle.scale.specs.declared.physical.Scheme.{Scheme}
+use Rattle.scale.specs.declared.physical.Scheme.the-variants as Scheme
+use Rattle.sweep.specs.Sweep.{Accepted, sweepOf}
+use Rattle.xdr.specs.Xdr as Xdr
+use Rattle.xdr.specs.Answers.{done, stringPart, arrayPart}
+use Rattle.capi.specs.declared.report.Report.{Report}
+use Rattle.capi.specs.declared.sweeps.Asked.{Asked}
+use Rattle.capi.specs.declared.sweeps.Asked.the-variants as Asked
+use Rattle.capi.specs.Report.{reportOf, endedReport, Said, said, failed, saying, choice}
+use Rattle.capi.specs.Places.{noReport, numberReport, signedReport, floatReport, pairReport, partReport}
+
+-- a field, by its kind: i16, u16, i32, a pair of f32
+abbrev pub fieldSaid : List ℕ → ℕ → ℕ → ℕ → Said Report
+fieldSaid file block index kind =
+    choice kind
+    (reportOf (hwI16 file block index) signedReport ∷ reportOf (hwU16 file block index) numberReport
+    ∷ reportOf (hwI32 file block index) signedReport ∷ reportOf (hwPair file block index) pairReport ∷ [])
+
+-- an XDR item, by its number: int, uint, float, string, array of integers, list of parameters
+abbrev pub xdrSaid : ℕ → List ℕ → ℕ → Said Report
+xdrSaid op s at =
+    choice op
+    (endedReport (walk Xdr.int s at) signedReport ∷ endedReport (walk Xdr.uint s at) numberReport ∷ endedReport (walk Xdr.float s at) floatReport
+    ∷ endedReport (stringPart s at (walk Xdr.string s at)) partReport ∷ endedReport (arrayPart at (walk Xdr.intArray s at)) partReport
+    ∷ endedReport (done (walk (Xdr.counted Xdr.parameter) s at)) noReport ∷ [])
+
+-- the thresholds' place, for a buffer of n bytes, which has to be 32
+unfoldable pub thresholdSaid : List ℕ → ℕ → ℕ → Said (Result ℕ)
+thresholdSaid file block n = cond (eqb n 32) (said (thresholdPlace file block)) (failed 101)
+
+-- the sixteen levels of 32 bytes, for a buffer of n places
+unfoldable pub levelsSaid : List ℕ → Float → ℕ → Said (List Float)
+levelsSaid bytes post n = cond (eqb (length bytes) 32 && eqb n 16) (said (levelsOf bytes 0 post)) (failed 101)
+
+-- the known codes, for a buffer of n places
+unfoldable pub codesSaid : ℕ → Said (List ℕ)
+codesSaid n = cond (eqb n 26) (said codes) (failed 101)
+
+-- a scheme by its number, with the factor or the post-scale: halfword, float, precipitation, legacy, class
+abbrev pub schemeSaid : ℕ → Float → Said Scheme
+schemeSaid n x = choice n (Scheme.Halfword ∷ Scheme.Float ∷ Scheme.Precipitation x ∷ Scheme.Legacy x ∷ Scheme.Class ∷ [])
+
+-- the sweep, for buffers of `na`, `nc` and `np` places
+abbrev pub sweepSaid : ℕ → Float → List ℕ → ℕ → List ℕ → ℕ → ℕ → ℕ → Said (Result Accepted)
+sweepSaid n x file clock body na nc np = saying (λ scheme. sweepOf scheme file clock body na nc np) (schemeSaid n x)
+
+-- what the code says of a scheme's number
+abbrev pub askedOf : Asked → Said Scheme
+askedOf (Asked.Known s) = said s
+askedOf Asked.Unknown = failed 101

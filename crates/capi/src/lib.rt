@@ -1,0 +1,11 @@
+// The reader behind C functions. l3.h says what each one takes, returns and writes.
+pub mod body;
+mod copies;
+pub mod header;
+pub mod items;
+pub mod pdb;
+mod places;
+pub mod products;
+mod report;
+pub mod scaling;
+pub mod sweeps;
