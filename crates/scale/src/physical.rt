@@ -155,7 +155,11 @@ fn level_of(levels: &[f32; 16], code: u16) -> f32
     ensures { λ r. ⌜ r ≡ levelOf (now (levels .entry)) code ⌝ }
 {
     let level = levels[(code % 16) as usize];
-    if code < 16 { level } else { bytes::float::nan32() }
+    if code < 16 {
+        level
+    } else {
+        bytes::float::nan32()
+    }
 }
 
 fn fill_open(min: f32, step: f32, floor: u16, codes: &[u16], physical: &mut [f32])

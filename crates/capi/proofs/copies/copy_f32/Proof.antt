@@ -7,10 +7,10 @@ use Rattle.capi.proofs.copies.copy_f32.Statement.{statement}
 use Rattle.capi.proofs.copies.copy_f32.Tie as tie
 
 abbrev Inv-loop : tie.InvT-loop
-Inv-loop from to₀ i₀ to i = Copied from to₀ to i
+Inv-loop values levels₀ i₀ levels i = Copied values levels₀ levels i
 
 abbrev μ-loop : tie.MeasureT-loop
-μ-loop from to₀ i₀ to i = length from - i
+μ-loop values levels₀ i₀ levels i = length values - i
 
 loop-holds : tie.Need-loop-holds Inv-loop μ-loop
 loop-holds c = copied-first _ _ (c .pre)
@@ -18,14 +18,14 @@ loop-holds c = copied-first _ _ (c .pre)
 mul-to : tie.Need-mul-to Inv-loop μ-loop
 mul-to c = search needs
 
-shared-slice-read-to : tie.Need-shared-slice-read-to Inv-loop μ-loop
-shared-slice-read-to c = search needs
+shared-slice-read-levels : tie.Need-shared-slice-read-levels Inv-loop μ-loop
+shared-slice-read-levels c = search needs
 
 mul-to-2 : tie.Need-mul-to-2 Inv-loop μ-loop
 mul-to-2 c = search needs
 
-slice-write-to : tie.Need-slice-write-to Inv-loop μ-loop
-slice-write-to c = search needs
+slice-write-levels : tie.Need-slice-write-levels Inv-loop μ-loop
+slice-write-levels c = search needs
 
 add-i : tie.Need-add-i Inv-loop μ-loop
 add-i c = search needs
@@ -50,9 +50,9 @@ copy-f32-spec =
     μ-loop
     loop-holds
     mul-to
-    shared-slice-read-to
+    shared-slice-read-levels
     mul-to-2
-    slice-write-to
+    slice-write-levels
     add-i
     loop-less
     loop-again

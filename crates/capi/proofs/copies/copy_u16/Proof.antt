@@ -7,10 +7,10 @@ use Rattle.capi.proofs.copies.copy_u16.Statement.{statement}
 use Rattle.capi.proofs.copies.copy_u16.Tie as tie
 
 abbrev Inv-loop : tie.InvT-loop
-Inv-loop from to₀ i₀ to i = Copied from to₀ to i
+Inv-loop codes table₀ i₀ table i = Copied codes table₀ table i
 
 abbrev μ-loop : tie.MeasureT-loop
-μ-loop from to₀ i₀ to i = length from - i
+μ-loop codes table₀ i₀ table i = length codes - i
 
 loop-holds : tie.Need-loop-holds Inv-loop μ-loop
 loop-holds c = copied-first _ _ (c .pre)
@@ -18,14 +18,14 @@ loop-holds c = copied-first _ _ (c .pre)
 mul-to : tie.Need-mul-to Inv-loop μ-loop
 mul-to c = search needs
 
-shared-slice-read-to : tie.Need-shared-slice-read-to Inv-loop μ-loop
-shared-slice-read-to c = search needs
+shared-slice-read-table : tie.Need-shared-slice-read-table Inv-loop μ-loop
+shared-slice-read-table c = search needs
 
 mul-to-2 : tie.Need-mul-to-2 Inv-loop μ-loop
 mul-to-2 c = search needs
 
-slice-write-to : tie.Need-slice-write-to Inv-loop μ-loop
-slice-write-to c = search needs
+slice-write-table : tie.Need-slice-write-table Inv-loop μ-loop
+slice-write-table c = search needs
 
 add-i : tie.Need-add-i Inv-loop μ-loop
 add-i c = search needs
@@ -50,9 +50,9 @@ copy-u16-spec =
     μ-loop
     loop-holds
     mul-to
-    shared-slice-read-to
+    shared-slice-read-table
     mul-to-2
-    slice-write-to
+    slice-write-table
     add-i
     loop-less
     loop-again

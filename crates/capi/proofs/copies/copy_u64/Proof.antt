@@ -7,10 +7,10 @@ use Rattle.capi.proofs.copies.copy_u64.Statement.{statement}
 use Rattle.capi.proofs.copies.copy_u64.Tie as tie
 
 abbrev Inv-loop : tie.InvT-loop
-Inv-loop from to₀ i₀ to i = Copied from to₀ to i
+Inv-loop words ints₀ i₀ ints i = Copied words ints₀ ints i
 
 abbrev μ-loop : tie.MeasureT-loop
-μ-loop from to₀ i₀ to i = length from - i
+μ-loop words ints₀ i₀ ints i = length words - i
 
 loop-holds : tie.Need-loop-holds Inv-loop μ-loop
 loop-holds c = copied-first _ _ (c .pre)
@@ -18,14 +18,14 @@ loop-holds c = copied-first _ _ (c .pre)
 mul-to : tie.Need-mul-to Inv-loop μ-loop
 mul-to c = search needs
 
-shared-slice-read-to : tie.Need-shared-slice-read-to Inv-loop μ-loop
-shared-slice-read-to c = search needs
+shared-slice-read-ints : tie.Need-shared-slice-read-ints Inv-loop μ-loop
+shared-slice-read-ints c = search needs
 
 mul-to-2 : tie.Need-mul-to-2 Inv-loop μ-loop
 mul-to-2 c = search needs
 
-slice-write-to : tie.Need-slice-write-to Inv-loop μ-loop
-slice-write-to c = search needs
+slice-write-ints : tie.Need-slice-write-ints Inv-loop μ-loop
+slice-write-ints c = search needs
 
 add-i : tie.Need-add-i Inv-loop μ-loop
 add-i c = search needs
@@ -50,9 +50,9 @@ copy-u64-spec =
     μ-loop
     loop-holds
     mul-to
-    shared-slice-read-to
+    shared-slice-read-ints
     mul-to-2
-    slice-write-to
+    slice-write-ints
     add-i
     loop-less
     loop-again

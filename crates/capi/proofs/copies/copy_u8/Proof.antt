@@ -7,19 +7,19 @@ use Rattle.capi.proofs.copies.copy_u8.Statement.{statement}
 use Rattle.capi.proofs.copies.copy_u8.Tie as tie
 
 abbrev Inv-loop : tie.InvT-loop
-Inv-loop from to₀ i₀ to i = Copied from to₀ to i
+Inv-loop bytes copy₀ i₀ copy i = Copied bytes copy₀ copy i
 
 abbrev μ-loop : tie.MeasureT-loop
-μ-loop from to₀ i₀ to i = length from - i
+μ-loop bytes copy₀ i₀ copy i = length bytes - i
 
 loop-holds : tie.Need-loop-holds Inv-loop μ-loop
 loop-holds c = copied-first _ _ (c .pre)
 
-shared-slice-read-to : tie.Need-shared-slice-read-to Inv-loop μ-loop
-shared-slice-read-to c = search needs
+shared-slice-read-copy : tie.Need-shared-slice-read-copy Inv-loop μ-loop
+shared-slice-read-copy c = search needs
 
-slice-write-to : tie.Need-slice-write-to Inv-loop μ-loop
-slice-write-to c = search needs
+slice-write-copy : tie.Need-slice-write-copy Inv-loop μ-loop
+slice-write-copy c = search needs
 
 add-i : tie.Need-add-i Inv-loop μ-loop
 add-i c = search needs
@@ -43,8 +43,8 @@ copy-u8-spec =
     Inv-loop
     μ-loop
     loop-holds
-    shared-slice-read-to
-    slice-write-to
+    shared-slice-read-copy
+    slice-write-copy
     add-i
     loop-less
     loop-again

@@ -1,0 +1,271 @@
+//! One case: which reading, and its inputs.
+use crate::text::{hex, unhex};
+
+#[derive(Debug, Clone, Copy, PartialEq)]
+pub enum Scheme {
+    Halfword,
+    Float,
+    Precip(f32),
+    Legacy(f32),
+    Class,
+}
+
+/// The lengths of the lent buffers.
+#[derive(Debug, Clone, Copy, PartialEq, Eq)]
+pub struct Lent {
+    pub azimuths: usize,
+    pub codes: usize,
+    pub physical: usize,
+}
+
+#[derive(Debug, Clone, Copy, PartialEq, Eq)]
+pub enum FieldKind {
+    I16,
+    U16,
+    I32,
+    Pair,
+}
+
+#[derive(Debug, Clone, PartialEq)]
+pub enum Case {
+    Sweep {
+        clock: i128,
+        scheme: Scheme,
+        lent: Lent,
+        file: Vec<u8>,
+        body: Vec<u8>,
+    },
+    Sym {
+        body: Vec<u8>,
+    },
+    Token {
+        file: Vec<u8>,
+    },
+    Mhb {
+        file: Vec<u8>,
+    },
+    Time {
+        clock: i128,
+        days: u16,
+        seconds: i32,
+    },
+    Field {
+        file: Vec<u8>,
+        block: usize,
+        index: usize,
+        kind: FieldKind,
+    },
+    Pdb {
+        file: Vec<u8>,
+        block: usize,
+    },
+    Lin {
+        file: Vec<u8>,
+        block: usize,
+    },
+    Flt {
+        file: Vec<u8>,
+        block: usize,
+    },
+    Prc {
+        file: Vec<u8>,
+        block: usize,
+        factor: f32,
+    },
+    Thr {
+        file: Vec<u8>,
+        block: usize,
+    },
+    Leg {
+        thresholds: [u8; 32],
+        post_scale: f32,
+    },
+    Trail {
+        bytes: Vec<u8>,
+    },
+    Known {
+        code: i16,
+    },
+    Codes,
+    /// Each letter of `ops` is one item read: i u f s a l.
+    Xdr {
+        ops: String,
+        payload: Vec<u8>,
+    },
+}
+
+impl Lent {
+    /// Enough for every accepted sweep: 100,000 radials, 4,000,000 cells.
+    pub const MOST: Lent = Lent { azimuths: 100_000, codes: 4_000_000, physical: 4_000_000 };
+}
+
+impl Scheme {
+    pub const NAMES: [&'static str; 5] = ["halfword", "float", "precipitation", "legacy", "class"];
+
+    pub fn index(self) -> usize {
+        match self {
+            Scheme::Halfword => 0,
+            Scheme::Float => 1,
+            Scheme::Precip(_) => 2,
+            Scheme::Legacy(_) => 3,
+            Scheme::Class => 4,
+        }
+    }
+
+    pub fn parameter(self) -> f32 {
+        match self {
+            Scheme::Precip(x) | Scheme::Legacy(x) => x,
+            _ => 0.0,
+        }
+    }
+
+    pub fn of(index: usize, parameter: f32) -> Option<Scheme> {
+        Some(match index {
+            0 => Scheme::Halfword,
+            1 => Scheme::Float,
+            2 => Scheme::Precip(parameter),
+            3 => Scheme::Legacy(parameter),
+            4 => Scheme::Class,
+            _ => return None,
+        })
+    }
+
+    fn text(self) -> String {
+        match self {
+            Scheme::Halfword => "H".into(),
+            Scheme::Float => "F".into(),
+            Scheme::Precip(x) => format!("P:{:08x}", x.to_bits()),
+            Scheme::Legacy(x) => format!("L:{:08x}", x.to_bits()),
+            Scheme::Class => "C".into(),
+        }
+    }
+
+    fn parse(s: &str) -> Result<Scheme, String> {
+        match s.split_once(':') {
+            None if s == "H" => Ok(Scheme::Halfword),
+            None if s == "F" => Ok(Scheme::Float),
+            None if s == "C" => Ok(Scheme::Class),
+            Some(("P", h)) => Ok(Scheme::Precip(float(h)?)),
+            Some(("L", h)) => Ok(Scheme::Legacy(float(h)?)),
+            _ => Err(format!("no scheme is called {s}")),
+        }
+    }
+}
+
+impl FieldKind {
+    const NAMES: [(FieldKind, &'static str); 4] =
+        [(FieldKind::I16, "i16"), (FieldKind::U16, "u16"), (FieldKind::I32, "i32"), (FieldKind::Pair, "pair")];
+
+    fn text(self) -> &'static str {
+        FieldKind::NAMES[self as usize].1
+    }
+
+    fn parse(s: &str) -> Result<FieldKind, String> {
+        FieldKind::NAMES.iter().find(|k| k.1 == s).map(|k| k.0).ok_or_else(|| format!("no kind of field is called {s}"))
+    }
+}
+
+fn float(s: &str) -> Result<f32, String> {
+    u32::from_str_radix(s, 16).map(f32::from_bits).map_err(|e| format!("{s}: {e}"))
+}
+
+fn number<T: std::str::FromStr>(s: &str) -> Result<T, String> {
+    s.parse().map_err(|_| format!("{s}: not a number of the kind wanted"))
+}
+
+impl Case {
+    /// The first word of the line.
+    pub fn kind(&self) -> &'static str {
+        match self {
+            Case::Sweep { .. } => "sweep",
+            Case::Sym { .. } => "sym",
+            Case::Token { .. } => "token",
+            Case::Mhb { .. } => "mhb",
+            Case::Time { .. } => "time",
+            Case::Field { .. } => "field",
+            Case::Pdb { .. } => "pdb",
+            Case::Lin { .. } => "lin",
+            Case::Flt { .. } => "flt",
+            Case::Prc { .. } => "prc",
+            Case::Thr { .. } => "thr",
+            Case::Leg { .. } => "leg",
+            Case::Trail { .. } => "trail",
+            Case::Known { .. } => "known",
+            Case::Codes => "codes",
+            Case::Xdr { .. } => "xdr",
+        }
+    }
+
+    /// A case line: the kind, a name, and the inputs.
+    pub fn parse(line: &str) -> Result<(String, Case), String> {
+        let words: Vec<&str> = line.split_ascii_whitespace().collect();
+        let word = |i: usize| words.get(i).copied().ok_or_else(|| format!("word {i} is missing"));
+        let bytes = |i: usize| unhex(word(i)?);
+        let case = match word(0)? {
+            "sweep" => Case::Sweep {
+                clock: number(word(2)?)?,
+                scheme: Scheme::parse(word(3)?)?,
+                lent: Lent { azimuths: number(word(4)?)?, codes: number(word(5)?)?, physical: number(word(6)?)? },
+                file: bytes(7)?,
+                body: bytes(8)?,
+            },
+            "sym" => Case::Sym { body: bytes(2)? },
+            "token" => Case::Token { file: bytes(2)? },
+            "mhb" => Case::Mhb { file: bytes(2)? },
+            "time" => Case::Time { clock: number(word(2)?)?, days: number(word(3)?)?, seconds: number(word(4)?)? },
+            "field" => Case::Field {
+                file: bytes(2)?,
+                block: number(word(3)?)?,
+                index: number(word(4)?)?,
+                kind: FieldKind::parse(word(5)?)?,
+            },
+            "pdb" => Case::Pdb { file: bytes(2)?, block: number(word(3)?)? },
+            "lin" => Case::Lin { file: bytes(2)?, block: number(word(3)?)? },
+            "flt" => Case::Flt { file: bytes(2)?, block: number(word(3)?)? },
+            "prc" => Case::Prc { file: bytes(2)?, block: number(word(3)?)?, factor: float(word(4)?)? },
+            "thr" => Case::Thr { file: bytes(2)?, block: number(word(3)?)? },
+            "leg" => {
+                Case::Leg { thresholds: bytes(2)?.try_into().map_err(|_| "not 32 bytes")?, post_scale: float(word(3)?)? }
+            }
+            "trail" => Case::Trail { bytes: bytes(2)? },
+            "known" => Case::Known { code: number(word(2)?)? },
+            "codes" => Case::Codes,
+            "xdr" => {
+                let ops = word(2)?.replace('-', "");
+                match ops.chars().find(|c| !"iufsal".contains(*c)) {
+                    Some(c) => return Err(format!("no XDR item is called {c}")),
+                    None => Case::Xdr { ops, payload: bytes(3)? },
+                }
+            }
+            kind => return Err(format!("no kind of case is called {kind}")),
+        };
+        Ok((word(1)?.to_string(), case))
+    }
+
+    pub fn line(&self, name: &str) -> String {
+        let kind = self.kind();
+        let inputs = match self {
+            Case::Sweep { clock, scheme, lent, file, body } => {
+                let Lent { azimuths, codes, physical } = lent;
+                format!("{clock} {} {azimuths} {codes} {physical} {} {}", scheme.text(), hex(file), hex(body))
+            }
+            Case::Sym { body } => hex(body),
+            Case::Token { file } | Case::Mhb { file } => hex(file),
+            Case::Time { clock, days, seconds } => format!("{clock} {days} {seconds}"),
+            Case::Field { file, block, index, kind } => format!("{} {block} {index} {}", hex(file), kind.text()),
+            Case::Pdb { file, block }
+            | Case::Lin { file, block }
+            | Case::Flt { file, block }
+            | Case::Thr { file, block } => {
+                format!("{} {block}", hex(file))
+            }
+            Case::Prc { file, block, factor } => format!("{} {block} {:08x}", hex(file), factor.to_bits()),
+            Case::Leg { thresholds, post_scale } => format!("{} {:08x}", hex(thresholds), post_scale.to_bits()),
+            Case::Trail { bytes } => hex(bytes),
+            Case::Known { code } => code.to_string(),
+            Case::Codes => return format!("{kind} {name}"),
+            Case::Xdr { ops, payload } => format!("{} {}", if ops.is_empty() { "-" } else { ops }, hex(payload)),
+        };
+        format!("{kind} {name} {inputs}")
+    }
+}

@@ -1,0 +1,177 @@
+//! How long the Rust and the port take on the same inputs, in one process: a markdown table of medians.
+//!
+//!     bench [--rounds N]
+//!
+//! Runs are interleaved: each round times the Rust, the port and a plain copy of the output arrays once. The port writes into
+//! buffers that are not cleared in between; the Rust allocates its arrays, as it always does.
+use lines::{Answer, Case, Lent, Packet, Scheme};
+use oracle::make::{body, generic, Rng};
+use oracle::port::{Entries, Port, Timed};
+use oracle::program::{self, Arguments};
+use oracle::sample;
+use std::hint::black_box;
+use std::process::exit;
+use std::time::Instant;
+
+const CLOCK: u64 = 1_800_000_000;
+
+fn main() {
+    let arguments = Arguments::read(&["--rounds=", "--self"]);
+    program::need_rust();
+    let entries = program::port_or_self(&arguments);
+    let rounds = arguments.number("--rounds").unwrap_or(101) as usize;
+    let rng = &mut Rng::new(1, 1);
+    println!("| packet | reading | Rust, µs | port, µs | Rust / port | copy, µs | port / copy |");
+    println!("|---|---|---:|---:|---:|---:|---:|");
+    let sixteen = body::bench16(rng, 720, 1840);
+    let runs = [15, 4].map(|longest| body::bench_af1f(rng, 360, 460, longest));
+    let levels = generic::bench28(rng, 360, 920);
+    for (name, packet, radials, bins, body) in [
+        ("16, 720 × 1840", Packet::P16, 720, 1840, &sixteen),
+        ("AF1F, 360 × 460, runs to 15", Packet::Af1f, 360, 460, &runs[0]),
+        ("AF1F, 360 × 460, runs to 4", Packet::Af1f, 360, 460, &runs[1]),
+        ("28, 360 × 920", Packet::P28, 360, 920, &levels),
+    ] {
+        let lent = Lent { azimuths: radials, codes: radials * bins, physical: radials * bins };
+        Job { entries, rounds, name, body, lent }.run(packet);
+    }
+    println!();
+    println!("medians of {rounds} interleaved runs");
+}
+
+struct Job<'a> {
+    entries: Entries,
+    rounds: usize,
+    name: &'a str,
+    body: &'a [u8],
+    lent: Lent,
+}
+
+impl Job<'_> {
+    fn run(&self, packet: Packet) {
+        self.agree(&Case::Sym { body: self.body.to_vec() });
+        let mut port = Timed::new(self.entries, &[], CLOCK, Scheme::Class, self.body, self.lent);
+        let mut copy = Copy::new(self.lent);
+        self.row(
+            "symbology",
+            || drop(black_box(radish_fast::read_symbology(black_box(self.body)))),
+            || assert_eq!(port.symbology(), 0),
+            || copy.codes(),
+        );
+        for (name, scheme, file) in sample::bench_files() {
+            let fits = match packet {
+                Packet::P16 => !matches!(scheme, Scheme::Legacy(_)),
+                Packet::Af1f => true,
+                Packet::P28 => matches!(scheme, Scheme::Precip(_) | Scheme::Class),
+            };
+            if fits {
+                self.sweep(name, scheme, &file);
+            }
+        }
+    }
+
+    fn sweep(&self, name: &str, scheme: Scheme, file: &[u8]) {
+        let (lent, body) = (self.lent, self.body);
+        self.agree(&Case::Sweep { clock: CLOCK.into(), scheme, lent, file: file.to_vec(), body: body.to_vec() });
+        let mut port = Timed::new(self.entries, file, CLOCK, scheme, body, lent);
+        let mut copy = Copy::new(lent);
+        self.row(
+            &format!("sweep, {name}"),
+            || drop(black_box(radish_fast::read_sweep(file, CLOCK.into(), scheme, black_box(body), lent))),
+            || assert_eq!(port.sweep(), 0),
+            || copy.all(),
+        );
+    }
+
+    /// What is timed must give the same answer.
+    fn agree(&self, case: &Case) {
+        let rust = radish_fast::answer(case);
+        assert!(!matches!(rust, Answer::Refused(_)), "{}: {rust}", self.name);
+        let port = Port::new(self.entries).run(case, self.lent);
+        if !rust.same(&port.answer) || port.fault.is_some() {
+            eprintln!("packet {}: the answers differ; `compare` says more", self.name);
+            exit(1);
+        }
+    }
+
+    fn row(&self, reading: &str, rust: impl FnMut(), port: impl FnMut(), copy: impl FnMut()) {
+        let mut timers = [Timer::new(rust), Timer::new(port), Timer::new(copy)];
+        for _ in 0..self.rounds {
+            timers.iter_mut().for_each(Timer::round);
+        }
+        let [rust, port, copy] = timers.map(Timer::median);
+        println!(
+            "| {} | {reading} | {rust:.1} | {port:.1} | {:.2} | {copy:.1} | {:.2} |",
+            self.name,
+            rust / port,
+            port / copy
+        );
+    }
+}
+
+/// Copies of the output arrays.
+struct Copy {
+    azimuths: [Vec<f64>; 2],
+    codes: [Vec<u16>; 2],
+    physical: [Vec<f32>; 2],
+}
+
+impl Copy {
+    fn new(lent: Lent) -> Copy {
+        Copy {
+            azimuths: [vec![1.5; lent.azimuths], vec![0.5; lent.azimuths]],
+            codes: [vec![7; lent.codes], vec![9; lent.codes]],
+            physical: [vec![1.5; lent.physical], vec![0.5; lent.physical]],
+        }
+    }
+
+    fn codes(&mut self) {
+        let [to, from] = &mut self.azimuths;
+        to.copy_from_slice(black_box(from));
+        let [to, from] = &mut self.codes;
+        to.copy_from_slice(black_box(from));
+    }
+
+    fn all(&mut self) {
+        self.codes();
+        let [to, from] = &mut self.physical;
+        to.copy_from_slice(black_box(from));
+    }
+}
+
+/// One of the things that are timed in turn.
+struct Timer<'a> {
+    run: Box<dyn FnMut() + 'a>,
+    /// Runs in one sample, so that a sample is long enough for the clock.
+    repeats: usize,
+    samples: Vec<f64>,
+}
+
+impl<'a> Timer<'a> {
+    fn new(run: impl FnMut() + 'a) -> Timer<'a> {
+        let mut timer = Timer { run: Box::new(run), repeats: 1, samples: vec![] };
+        while timer.sample() * (timer.repeats as f64) < 200.0 {
+            timer.repeats *= 2;
+        }
+        timer
+    }
+
+    /// Microseconds for one run.
+    fn sample(&mut self) -> f64 {
+        let start = Instant::now();
+        for _ in 0..self.repeats {
+            (self.run)();
+        }
+        start.elapsed().as_secs_f64() * 1e6 / self.repeats as f64
+    }
+
+    fn round(&mut self) {
+        let sample = self.sample();
+        self.samples.push(sample);
+    }
+
+    fn median(mut self) -> f64 {
+        self.samples.sort_by(f64::total_cmp);
+        self.samples[self.samples.len() / 2]
+    }
+}

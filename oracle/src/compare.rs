@@ -1,0 +1,281 @@
+//! Both answers to each case, what differs, and the counts.
+use crate::damage;
+use crate::make::{cases, Rng};
+use crate::model;
+use crate::port::{Entries, Outcome, Port};
+use crate::trap;
+use lines::{Answer, Case, Lent, Packet, Refusal, Scheme, NAMES};
+use std::collections::BTreeMap;
+
+mod fixed;
+
+/// How many were accepted and how many refused.
+#[derive(Debug, Clone, Copy, Default)]
+pub struct Split {
+    pub accepted: u64,
+    pub refused: u64,
+}
+
+#[derive(Debug, Default)]
+pub struct Counts {
+    pub cases: u64,
+    pub differences: u64,
+    pub accepted: u64,
+    /// By the table's number.
+    pub refusals: BTreeMap<u32, u64>,
+    pub kinds: BTreeMap<&'static str, u64>,
+    /// Sweeps whose body names the packet.
+    pub sweeps: [[Split; 5]; 3],
+    /// Second bodies of demand 3.
+    pub damaged: [[Split; 5]; 3],
+}
+
+pub struct Compare {
+    port: Port,
+    pub counts: Counts,
+    /// How many differences are printed.
+    pub show: u64,
+    /// Whether every case is printed.
+    pub every: bool,
+}
+
+impl Compare {
+    pub fn new(entries: Entries) -> Compare {
+        Compare { port: Port::new(entries), counts: Counts::default(), show: u64::MAX, every: false }
+    }
+
+    /// Runs both on a case and holds the port's answer to the Rust's.
+    pub fn both(&mut self, case: &Case) -> (Answer, Answer) {
+        let rust = radish::answer(case);
+        self.counts.count(case, &rust);
+        let lent = match &rust {
+            Answer::Picture(p) => Lent { azimuths: p.radials + 1, codes: p.codes.len() + 3, physical: 0 },
+            _ => Lent { azimuths: 5, codes: 40, physical: 0 },
+        };
+        let port = self.hold(case, &rust, lent);
+        if let Answer::Picture(p) = &rust {
+            self.short_symbology(case, p.radials, p.codes.len());
+        }
+        (rust, port)
+    }
+
+    /// Holds the port to an answer that document 01's table gives where the Rust is outside its domain.
+    pub fn table(&mut self, case: &Case, answer: Answer) {
+        self.counts.count(case, &answer);
+        self.hold(case, &answer, Lent { azimuths: 0, codes: 0, physical: 0 });
+    }
+
+    fn hold(&mut self, case: &Case, want: &Answer, lent: Lent) -> Answer {
+        let Outcome { answer, place, fault } = trap::during(case, || self.port.run(case, lent));
+        let mut why = vec![];
+        if !want.same(&answer) {
+            why.push("the answers differ".to_string());
+        }
+        why.extend(fault);
+        if let (Some(place), Case::Token { file } | Case::Sweep { file, .. }) = (place, case) {
+            if model::token_place(file) != Some(place) {
+                why.push(format!("the token's place is given as {place}"));
+            }
+        }
+        if !why.is_empty() {
+            self.differs(&why.join("; "), case, &[("wanted", want), ("port", &answer)]);
+        } else if self.every {
+            println!("{}\n  {answer}", case.line("case"));
+        }
+        answer
+    }
+
+    /// Too little lent to symbology is 36, after everything else that it refuses.
+    fn short_symbology(&mut self, case: &Case, radials: usize, cells: usize) {
+        let lent = [(radials - 1, cells, 0), (radials, cells - 1, 1), (0, 0, 0)];
+        let (azimuths, codes, buffer) = lent[(self.counts.cases % 3) as usize];
+        let want = Answer::Refused(Refusal::new(36, &[buffer]));
+        self.counts.cases += 1;
+        self.counts.count_refusal(36);
+        self.hold(case, &want, Lent { azimuths, codes, physical: 0 });
+    }
+
+    /// One XDR item read at a position: the Rust reads what is left from there on.
+    pub fn xdr_at(&mut self, op: char, payload: &[u8], at: usize) {
+        let rest = payload.get(at..).unwrap_or(&[]);
+        let case = Case::Xdr { ops: op.into(), payload: rest.to_vec() };
+        let mut rust = radish::answer(&case);
+        self.counts.count(&case, &rust);
+        if let Answer::Xdr { position, .. } = &mut rust {
+            *position += at;
+        }
+        let (item, position) = trap::during(&case, || self.port.xdr_at(op, payload, at));
+        let fault = self.port.take_fault();
+        let (items, refusal) = match item {
+            Ok(item) => (vec![item], None),
+            Err(refusal) => (vec![], Some(refusal)),
+        };
+        let port = Answer::Xdr { items, refusal, position };
+        if !rust.same(&port) || fault.is_some() {
+            let why = format!("read at {at} of {} bytes {}", payload.len(), fault.unwrap_or_default());
+            self.differs(&why, &case, &[("rust", &rust), ("port", &port)]);
+        }
+    }
+
+    /// Demand 3: an accepted body, and bodies that differ from it in data bytes and unread bytes alone.
+    pub fn damage(&mut self, rng: &mut Rng) {
+        let case = cases::accepted(rng);
+        let (Answer::Sweep(first), _) = self.both(&case) else { return };
+        let Case::Sweep { clock, scheme, lent, file, body } = case else { return };
+        let layout = model::layout(&body);
+        for _ in 0..3 {
+            let second = damage::damaged(rng, &layout, &body);
+            let want = damage::predicted(&first, &layout, [&body, &second], &file, scheme);
+            let case = Case::Sweep { clock, scheme, lent, file: file.clone(), body: second };
+            let (rust, port) = self.both(&case);
+            self.counts.damaged[layout.packet as usize][scheme.index()].count(&want);
+            for (who, answer) in [("rust", &rust), ("port", &port)] {
+                if !want.same(answer) {
+                    self.differs("not the answer that the rows' data make", &case, &[("wanted", &want), (who, answer)]);
+                }
+            }
+        }
+    }
+
+    /// The case with this number, made from the seed.
+    pub fn random(&mut self, seed: u64, number: u64) {
+        let rng = &mut Rng::new(seed, number);
+        let case = match rng.below(100) {
+            0..=61 => cases::sweep(rng),
+            62..=71 => cases::symbology(rng),
+            72..=77 => return self.damage(rng),
+            78..=80 => cases::token(rng),
+            81 | 82 => cases::message_header(rng),
+            83..=85 => cases::scan_time(rng),
+            86 | 87 => cases::field(rng),
+            88..=92 => cases::block(rng),
+            93 => cases::levels(rng),
+            94 => cases::trailing(rng),
+            95 | 96 => return self.outside(rng),
+            _ => cases::xdr(rng),
+        };
+        self.both(&case);
+    }
+
+    fn differs(&mut self, why: &str, case: &Case, answers: &[(&str, &Answer)]) {
+        self.counts.differences += 1;
+        let number = self.counts.differences;
+        if number > self.show {
+            return;
+        }
+        println!("difference {number}: {why}\n  {}", shown(&case.line(&format!("d{number}")), number));
+        for (who, answer) in answers {
+            println!("  {who}: {answer}");
+        }
+    }
+
+    fn promise(&mut self, what: &str, kept: bool) {
+        self.counts.cases += 1;
+        if !kept {
+            self.counts.differences += 1;
+            if self.counts.differences <= self.show {
+                println!("difference {}: {what}", self.counts.differences);
+            }
+        }
+    }
+}
+
+/// A case line, or where it was put if it is very long.
+fn shown(line: &str, number: u64) -> String {
+    if line.len() <= 100_000 {
+        return line.into();
+    }
+    let path = std::env::temp_dir().join(format!("l3-difference-{number}.cases"));
+    match std::fs::write(&path, format!("{line}\n")) {
+        Ok(()) => format!("the case line is in {}", path.display()),
+        Err(e) => format!("a case line of {} characters, not written: {e}", line.len()),
+    }
+}
+
+impl Split {
+    fn count(&mut self, answer: &Answer) {
+        if answer.refusal().is_some() {
+            self.refused += 1
+        } else {
+            self.accepted += 1
+        }
+    }
+}
+
+impl Counts {
+    pub fn count(&mut self, case: &Case, answer: &Answer) {
+        self.cases += 1;
+        *self.kinds.entry(case.kind()).or_default() += 1;
+        match answer.refusal() {
+            Some(r) => self.count_refusal(r.number),
+            None => self.accepted += 1,
+        }
+        if let Case::Sweep { scheme, body, .. } = case {
+            let packet = match body.get(16..18) {
+                Some([0, 16]) => Packet::P16,
+                Some([0xaf, 0x1f]) => Packet::Af1f,
+                Some([0, 28]) => Packet::P28,
+                _ => return,
+            };
+            self.sweeps[packet as usize][scheme.index()].count(answer);
+        }
+    }
+
+    fn count_refusal(&mut self, number: u32) {
+        *self.refusals.entry(number).or_default() += 1;
+    }
+
+    /// Refusals and packets under schemes that did not occur.
+    pub fn missing(&self) -> Vec<String> {
+        let mut missing: Vec<String> =
+            (1..=36).filter(|n| !self.refusals.contains_key(n)).map(|n| format!("refusal {n}")).collect();
+        for packet in Packet::ALL {
+            for (scheme, name) in Scheme::NAMES.iter().enumerate() {
+                let split = self.sweeps[packet as usize][scheme];
+                let fits = match packet {
+                    Packet::P16 => scheme != 3,
+                    Packet::Af1f => true,
+                    Packet::P28 => scheme == 2 || scheme == 4,
+                };
+                if (fits && split.accepted == 0) || split.refused == 0 {
+                    missing.push(format!("packet {} under {name}", packet.name()));
+                }
+            }
+        }
+        missing
+    }
+
+    pub fn print(&self) {
+        println!("by kind of case:");
+        let kinds: Vec<String> = self.kinds.iter().map(|(k, n)| format!("{k} {n}")).collect();
+        println!("  {}", kinds.join(", "));
+        println!("by answer:");
+        println!("  accepted {:>32}", self.accepted);
+        for (number, count) in &self.refusals {
+            let name = NAMES.get(*number as usize - 1).unwrap_or(&"?");
+            println!("  {number:>2} {name:<28} {count:>9}");
+        }
+        print_table("sweeps by packet and scheme, accepted / refused:", &self.sweeps);
+        print_table("damaged bodies (demand 3), accepted / refused:", &self.damaged);
+        let missing = self.missing();
+        if !missing.is_empty() {
+            println!("did not occur: {}", missing.join(", "));
+        }
+    }
+}
+
+fn print_table(title: &str, table: &[[Split; 5]; 3]) {
+    println!("{title}");
+    print!("  {:<6}", "packet");
+    for name in Scheme::NAMES {
+        print!(" {name:>19}");
+    }
+    println!();
+    for packet in Packet::ALL {
+        print!("  {:<6}", packet.name());
+        for split in table[packet as usize] {
+            print!(" {:>19}", format!("{} / {}", split.accepted, split.refused));
+        }
+        println!();
+    }
+}

@@ -1,0 +1,363 @@
+//! The cases that every run has: short inputs exhaustively, every length of small files and bodies, every byte of them, the
+//! places outside the Rust's domain, the caps, and the two grid sizes.
+use super::Compare;
+use crate::make::body::{self, Body};
+use crate::make::{cases, file, Rng};
+use crate::model;
+use crate::sample;
+use lines::{Answer, Case, FieldKind, Lent, Packet, Refusal, Scheme};
+
+/// Every list of up to `most` elements.
+fn lists<T: Copy>(of: &[T], most: usize) -> Vec<Vec<T>> {
+    let mut all = vec![vec![]];
+    let mut last = all.clone();
+    for _ in 0..most {
+        last = last.iter().flat_map(|l: &Vec<T>| of.iter().map(move |x| [l.as_slice(), &[*x]].concat())).collect();
+        all.extend(last.iter().cloned());
+    }
+    all
+}
+
+fn words(list: &[u32]) -> Vec<u8> {
+    list.iter().flat_map(|w| w.to_be_bytes()).collect()
+}
+
+/// Numbers at which a sum or product of the place of a field would wrap.
+const EXTREMES: [usize; 12] =
+    [0, 1, 2, 4, 65_535, 65_536, 1 << 32, (1 << 63) - 1, 1 << 63, (1 << 63) + 1, usize::MAX - 1, usize::MAX];
+
+impl Compare {
+    pub fn fixed(&mut self, seed: u64) {
+        self.boundary();
+        for (_, case) in sample::edges() {
+            self.both(&case);
+        }
+        self.codes();
+        self.texts();
+        self.times();
+        self.fields();
+        self.blocks(seed);
+        self.levels(seed);
+        self.xdr_words();
+        for number in 0..4 {
+            let rng = &mut Rng::new(seed, u64::MAX - number);
+            self.every_length(rng);
+            self.every_byte(rng);
+        }
+        self.caps(seed);
+        self.grids(seed);
+    }
+
+    fn boundary(&mut self) {
+        for (what, kept) in self.port.boundary() {
+            self.promise(&what, kept);
+        }
+    }
+
+    fn codes(&mut self) {
+        self.both(&Case::Codes);
+        for code in i16::MIN..=i16::MAX {
+            self.both(&Case::Known { code });
+        }
+    }
+
+    fn texts(&mut self) {
+        for bytes in lists(&[0, 1, 3, b'\n', b'\r', 0xff], 5) {
+            self.both(&Case::Trail { bytes });
+        }
+        for file in lists(b"A\r\n", 9) {
+            self.both(&Case::Token { file });
+        }
+        let pieces: [&[u8]; 12] =
+            [b"N0BLOT", b"n0blo", b"N0BLOTX", b"\r\r\n", b"\r", b"\n", b" ", b"\t", b"\x0c", b"\x0b", b"\0", b"9"];
+        for list in lists(&pieces, 4) {
+            self.both(&Case::Token { file: list.concat() });
+        }
+        // a token at each place around byte 128
+        for at in 115..=131 {
+            for filler in *b"x \r\n" {
+                for (before, after) in [(&b""[..], &b""[..]), (b"\r\r\n", b""), (b"\r\r\n", b"\r\r\n"), (b"\r\r\n", b" x")] {
+                    let mut text = vec![filler; at];
+                    text.extend([before, b"N0BLOT", after].concat());
+                    self.both(&Case::Token { file: text });
+                }
+            }
+        }
+        // a header at each place of each length
+        for len in 0..=152 {
+            for at in 0..len {
+                let mut text = vec![0; len];
+                for (k, b) in [(0, 0), (1, 153), (18, 0xff), (19, 0xff)] {
+                    if at + k < len {
+                        text[at + k] = b;
+                    }
+                }
+                self.both(&Case::Mhb { file: text });
+            }
+        }
+    }
+
+    fn times(&mut self) {
+        for days in [0, 1, 2, 3, 20_000, 32_767, 32_768, 65_534, 65_535] {
+            for seconds in [i32::MIN, -1, 0, 1, 43_200, 86_399, 86_400, i32::MAX] {
+                let at = (days as i128 - 1) * 86_400 + seconds as i128;
+                let near = [at - 86_402, at - 86_401, at - 86_400, at - 86_399, at - 1, at, at + 1];
+                let odd = [0, 1, (1 << 40) - 1, 1 << 40, (1 << 40) + 1, 1 << 41, i64::MAX as i128, u64::MAX as i128];
+                for clock in near.into_iter().chain(odd).filter(|c| *c >= 0) {
+                    self.both(&Case::Time { clock, days, seconds });
+                }
+            }
+        }
+    }
+
+    fn fields(&mut self) {
+        for len in 0..=14 {
+            let file: Vec<u8> = (0..len).map(|i| 0x81 + 0x1d * i as u8).collect();
+            for kind in cases::KINDS {
+                for (block, index) in (0..8).flat_map(|block| (1..7).map(move |index| (block, index))) {
+                    self.both(&Case::Field { file: file.clone(), block, index, kind });
+                }
+                for (block, index) in EXTREMES.into_iter().flat_map(|b| EXTREMES.map(|i| (b, i))) {
+                    self.outside_field(Case::Field { file: file.clone(), block, index, kind });
+                }
+            }
+        }
+    }
+
+    /// A field whose block start or index the Rust does not take: the table's answer is worked out here.
+    fn outside_field(&mut self, case: Case) {
+        let Case::Field { file, block, index, kind } = &case else { return };
+        let width = match kind {
+            FieldKind::I16 | FieldKind::U16 => 2,
+            FieldKind::I32 => 4,
+            FieldKind::Pair => 8,
+        };
+        let Some(at) = model::field_place(file.len(), *block, *index, width) else {
+            return self.table(&case, Answer::Refused(Refusal::new(3, &[*index as i128])));
+        };
+        let bytes = &file[at..at + width];
+        let answer = match kind {
+            FieldKind::I16 => Answer::Number(i16::from_be_bytes(bytes.try_into().unwrap()).into()),
+            FieldKind::U16 => Answer::Number(u16::from_be_bytes(bytes.try_into().unwrap()).into()),
+            FieldKind::I32 => Answer::Number(i32::from_be_bytes(bytes.try_into().unwrap()).into()),
+            FieldKind::Pair => {
+                let float = |from: usize| f32::from_be_bytes(bytes[from..from + 4].try_into().unwrap());
+                Answer::Pair(float(0), float(4))
+            }
+        };
+        self.table(&case, answer);
+    }
+
+    /// A place outside the Rust's domain.
+    pub(super) fn outside(&mut self, rng: &mut Rng) {
+        let any = |rng: &mut Rng| match rng.below(3) {
+            0 => rng.u64() as usize,
+            1 => rng.pick(&EXTREMES),
+            _ => rng.pick(&EXTREMES).wrapping_add(rng.below(200)).wrapping_sub(100),
+        };
+        let n = rng.below(130);
+        let file = rng.bytes(n);
+        if rng.one_in(2) {
+            let (block, index) = (any(rng), any(rng));
+            return self.outside_field(Case::Field { file, block, index, kind: rng.pick(&cases::KINDS) });
+        }
+        // any block from which every field is outside
+        let block = any(rng).max(file.len());
+        self.outside_block(file, block);
+    }
+
+    fn outside_block(&mut self, file: Vec<u8>, block: usize) {
+        let three = |index| Answer::Refused(Refusal::new(3, &[index]));
+        self.table(&Case::Pdb { file: file.clone(), block }, three(2));
+        self.table(&Case::Lin { file: file.clone(), block }, three(22));
+        self.table(&Case::Flt { file: file.clone(), block }, three(22));
+        self.table(&Case::Prc { file: file.clone(), block, factor: 1.0 }, three(22));
+        self.table(&Case::Thr { file, block }, three(22));
+    }
+
+    /// The readings of several fields, from a file cut at every length.
+    fn blocks(&mut self, seed: u64) {
+        let rng = &mut Rng::new(seed, u64::MAX / 2);
+        for scheme in 0..5 {
+            let made = file::file(rng, Scheme::of(scheme, 1.0).unwrap(), 20_000, 3600);
+            let bytes = &made.bytes[made.block()..];
+            for len in 0..=bytes.len() {
+                for block in 0..3 {
+                    let file = [&vec![7; block], &bytes[..len]].concat();
+                    self.both(&Case::Pdb { file: file.clone(), block });
+                    self.both(&Case::Lin { file: file.clone(), block });
+                    self.both(&Case::Flt { file: file.clone(), block });
+                    self.both(&Case::Prc { file: file.clone(), block, factor: 0.254 });
+                    self.both(&Case::Thr { file, block });
+                }
+            }
+            for block in EXTREMES.into_iter().filter(|b| *b >= 65_535) {
+                self.outside_block(bytes.to_vec(), block);
+            }
+        }
+    }
+
+    fn levels(&mut self, seed: u64) {
+        let rng = &mut Rng::new(seed, u64::MAX / 3);
+        for flag in 0..=255 {
+            for _ in 0..16 {
+                let mut thresholds = [flag; 32];
+                for level in 0..16 {
+                    thresholds[2 * level + 1] = if level == 0 { 0 } else { rng.byte() };
+                }
+                let post_scale = if rng.one_in(2) { rng.odd_f32() } else { rng.plain_f32() };
+                self.both(&Case::Leg { thresholds, post_scale });
+            }
+        }
+    }
+
+    fn xdr_words(&mut self) {
+        for list in lists(&cases::WORDS, 3) {
+            for more in 0..4 {
+                let mut payload = words(&list);
+                payload.extend(&[b'a', 0, b'b'][..more]);
+                for op in ["i", "u", "f", "s", "a", "l"] {
+                    self.both(&Case::Xdr { ops: op.into(), payload: payload.clone() });
+                }
+            }
+        }
+        let payload = words(&[1, 0x6100_0000, 2, 0, 1, 0x6200_0000, 1, 0x6300_0000, 9, 0, 0, 0x7fc0_0000]);
+        for op in "iufsal".chars() {
+            let far = [payload.len() + 1, payload.len() + 5, 1 << 32, 1 << 63, usize::MAX - 3, usize::MAX];
+            for at in (0..=payload.len()).chain(far) {
+                self.xdr_at(op, &payload, at);
+                self.xdr_at(op, &payload[..payload.len() - 3], at);
+            }
+        }
+    }
+
+    fn every_length(&mut self, rng: &mut Rng) {
+        for packet in Packet::ALL {
+            let (file, body) = small(rng, packet, Scheme::Class);
+            for len in 0..=body.bytes.len() {
+                let cut = body.bytes[..len].to_vec();
+                self.both(&Case::Sym { body: cut.clone() });
+                self.both(&whole(Scheme::Class, &file, cut));
+            }
+            if packet == Packet::P28 {
+                // the payload's length cut with it
+                for len in 24..=body.bytes.len() {
+                    let mut cut = body.bytes[..len].to_vec();
+                    cut[20..24].copy_from_slice(&(len as u32 - 24).to_be_bytes());
+                    self.both(&Case::Sym { body: cut });
+                }
+            }
+        }
+        for scheme in 0..5 {
+            let scheme = Scheme::of(scheme, 0.254).unwrap();
+            let (file, body) = small(rng, Packet::Af1f, scheme);
+            for len in 0..=file.len() {
+                self.both(&whole(scheme, &file[..len], body.bytes.clone()));
+            }
+        }
+    }
+
+    fn every_byte(&mut self, rng: &mut Rng) {
+        let all: Vec<u8> = (0..=255).collect();
+        let some = [0, 1, 2, 3, 4, 5, 0x10, 0x27, 0x7f, 0x80, 0xfe, 0xff];
+        for packet in Packet::ALL {
+            let (_, body) = small(rng, packet, Scheme::Class);
+            let values = if packet == Packet::P28 { &some[..] } else { &all };
+            for at in 0..body.bytes.len() {
+                let mut changed = body.bytes.clone();
+                for value in values {
+                    changed[at] = *value;
+                    self.both(&Case::Sym { body: changed.clone() });
+                }
+            }
+        }
+        for scheme in 0..5 {
+            let scheme = Scheme::of(scheme, 25.4).unwrap();
+            let (file, body) = small(rng, Packet::Af1f, scheme);
+            for at in 0..file.len() {
+                let mut changed = file.clone();
+                for value in [0, 1, 9, b'A', b'\r', 0x7f, 0x80, 0xff] {
+                    changed[at] = value;
+                    self.both(&whole(scheme, &changed, body.bytes.clone()));
+                }
+            }
+        }
+    }
+
+    /// The caps themselves, with all that they ask for behind them.
+    fn caps(&mut self, seed: u64) {
+        let rng = &mut Rng::new(seed, u64::MAX / 5);
+        // a string, an array, a list of two empty strings each: whole, and one byte short
+        for (op, cap) in [("s", 4096usize), ("a", 100_000), ("l", 10_000)] {
+            for count in [cap - 1, cap, cap + 1] {
+                let size = match op {
+                    "s" => count.next_multiple_of(4),
+                    "a" => 4 * count,
+                    _ => 4 + 8 * count + 4 * (count - 1),
+                };
+                let mut payload = words(&[count as u32]);
+                payload.resize(4 + size, 0);
+                for short in 0..2 {
+                    payload.truncate(payload.len() - short);
+                    self.both(&Case::Xdr { ops: op.into(), payload: payload.clone() });
+                }
+            }
+        }
+        // as many radials and as long an array as packet 28 may have, and as many as sixteen bits name
+        for (packet, radials, bins) in [
+            (Packet::P28, 100_000, 40),
+            (Packet::P28, 100_000, 41),
+            (Packet::P28, 40, 100_000),
+            (Packet::Af1f, 65_535, 61),
+            (Packet::Af1f, 61, 65_535),
+        ] {
+            self.grid(rng, packet, radials, bins, Scheme::Class);
+        }
+    }
+
+    /// 2,000 × 2,000 cells pass, 2,000 × 2,001 do not.
+    fn grids(&mut self, seed: u64) {
+        let rng = &mut Rng::new(seed, u64::MAX / 7);
+        for packet in Packet::ALL {
+            for bins in [2000, 2001] {
+                self.grid(rng, packet, 2000, bins, Scheme::Precip(0.254));
+            }
+        }
+    }
+
+    fn grid(&mut self, rng: &mut Rng, packet: Packet, radials: usize, bins: usize, scheme: Scheme) {
+        let file = plain_file(rng, scheme);
+        let body = body::of_size(rng, packet, radials, bins).bytes;
+        self.both(&Case::Sym { body: body.clone() });
+        let lent = Lent { azimuths: radials + 2, codes: radials * bins + 2, physical: radials * bins + 2 };
+        let (rust, _) = self.both(&Case::Sweep { clock: 1 << 40, scheme, lent, file, body });
+        let refusal = rust.refusal().map_or("nothing".into(), |r| r.to_string());
+        let what = format!("packet {} with {radials} x {bins} cells is refused with {refusal}", packet.name());
+        self.promise(&what, rust.refusal().is_none() == (radials * bins <= 4_000_000));
+    }
+}
+
+/// A file whose scale fields pass under the scheme.
+fn plain_file(rng: &mut Rng, scheme: Scheme) -> Vec<u8> {
+    let mut made = file::file(rng, scheme, 20_000, 3600);
+    match scheme {
+        Scheme::Halfword => made.set(23, &5i16.to_be_bytes()),
+        Scheme::Float | Scheme::Precip(_) => {
+            made.set(22, &16f32.to_be_bytes());
+            made.set(24, &128f32.to_be_bytes());
+        }
+        _ => {}
+    }
+    made.bytes
+}
+
+/// A file and a small body, both good.
+fn small(rng: &mut Rng, packet: Packet, scheme: Scheme) -> (Vec<u8>, Body) {
+    let (radials, bins) = (rng.between(1, 3), rng.between(1, 6));
+    (plain_file(rng, scheme), body::of_size(rng, packet, radials, bins))
+}
+
+fn whole(scheme: Scheme, file: &[u8], body: Vec<u8>) -> Case {
+    let lent = Lent { azimuths: 4, codes: 20, physical: 19 };
+    Case::Sweep { clock: 1 << 40, scheme, lent, file: file.to_vec(), body }
+}

@@ -1,0 +1,334 @@
+//! Whole cases, in weights that make every refusal and every packet under every scheme occur often.
+use super::body::{self, Body};
+use super::file::{self, File};
+use super::Rng;
+use crate::model::CODES;
+use lines::{Case, FieldKind, Lent, Packet, Scheme};
+
+/// A day and second, the time they stand for, and a clock that lets it pass.
+struct Time {
+    days: u16,
+    seconds: i32,
+    clock: i128,
+}
+
+fn time(rng: &mut Rng) -> Time {
+    let days = if rng.one_in(8) { rng.between(1, 65_535) as u16 } else { 20_000 };
+    let seconds = if rng.one_in(8) { rng.pick(&[0, 86_399]) } else { rng.below(86_400) as i32 };
+    let at = (days as i128 - 1) * 86_400 + seconds as i128;
+    let clock = match rng.below(8) {
+        0 => (at - 86_400).max(0),
+        1 => 1 << 40,
+        2 => at,
+        _ => at + rng.below(100_000) as i128,
+    };
+    Time { days, seconds, clock }
+}
+
+/// Days and seconds that make no time, or a clock that is out of range or too far behind.
+fn spoil_time(rng: &mut Rng, time: &mut Time) {
+    let at = (time.days as i128 - 1) * 86_400 + time.seconds as i128;
+    match rng.below(6) {
+        0 => time.days = 0,
+        1 => time.seconds = rng.pick(&[-1, 86_400, i32::MIN, i32::MAX]),
+        2 => time.clock = rng.pick(&[(1 << 40) + 1, u64::MAX as i128, 1 << 41, i64::MAX as i128]),
+        3 => time.clock = 0,
+        _ => time.clock = at - 86_401 - rng.below(3) as i128 + rng.below(3) as i128,
+    }
+    if time.clock < 0 {
+        time.clock = 0;
+    }
+    if rng.one_in(4) {
+        time.clock = (1 << 40) + rng.below(3) as i128;
+    }
+}
+
+fn parameter(rng: &mut Rng) -> f32 {
+    match rng.below(4) {
+        0 => rng.odd_f32(),
+        1 => rng.plain_f32(),
+        _ => rng.pick(&[1.0, 0.254, 25.4, 0.514444]),
+    }
+}
+
+fn scheme(rng: &mut Rng) -> Scheme {
+    let index = rng.below(5);
+    Scheme::of(index, parameter(rng)).unwrap()
+}
+
+/// A scheme that the packet goes with.
+pub fn fitting_scheme(rng: &mut Rng, packet: Packet) -> Scheme {
+    let index = match packet {
+        Packet::P16 => rng.pick(&[0, 1, 2, 4]),
+        Packet::Af1f => rng.below(5),
+        Packet::P28 => rng.pick(&[2, 4]),
+    };
+    Scheme::of(index, parameter(rng)).unwrap()
+}
+
+/// Enough for the body as it was made, with a few places to spare or none.
+fn enough(rng: &mut Rng, body: &Body) -> Lent {
+    Lent { azimuths: body.radials + rng.below(3), codes: body.cells() + rng.below(4), physical: body.cells() + rng.below(4) }
+}
+
+/// One or more of the buffers too short, or just long enough.
+fn scant(rng: &mut Rng, body: &Body) -> Lent {
+    let some = |rng: &mut Rng, need: usize| match rng.below(4) {
+        0 => need - 1,
+        1 => rng.below(need + 1),
+        2 => 0,
+        _ => need,
+    };
+    Lent { azimuths: some(rng, body.radials), codes: some(rng, body.cells()), physical: some(rng, body.cells()) }
+}
+
+/// A good file, a good body and a scheme that fits, with enough lent: an accepted sweep, but for odd scale fields.
+pub fn accepted(rng: &mut Rng) -> Case {
+    let packet = rng.pick(&Packet::ALL);
+    let scheme = fitting_scheme(rng, packet);
+    let Time { days, seconds, clock } = time(rng);
+    let file = file::file(rng, scheme, days, seconds).bytes;
+    let body = body::good(rng, packet);
+    let lent = enough(rng, &body);
+    Case::Sweep { clock, scheme, lent, file, body: body.bytes }
+}
+
+fn spoil_file(rng: &mut Rng, file: &mut File) {
+    match rng.below(8) {
+        0 | 1 => file.cut(rng),
+        2 => {
+            // the head's letters go
+            for b in &mut file.bytes[..file.header] {
+                if b.is_ascii_alphanumeric() {
+                    *b = b'-';
+                }
+            }
+        }
+        3 => {
+            let at = rng.pick(&[file.header, file.block()]);
+            file.bytes[at] = rng.byte();
+        }
+        4 => {
+            let scale = rng.odd_f32();
+            file.set(22, &scale.to_be_bytes());
+        }
+        5 => {
+            let offset = rng.odd_f32();
+            file.set(24, &offset.to_be_bytes());
+        }
+        6 => {
+            let step = rng.pick(&[0, -1, i16::MIN, 1]);
+            file.set(23, &step.to_be_bytes());
+        }
+        _ => {
+            for _ in 0..rng.between(1, 4) {
+                let at = rng.below(file.bytes.len());
+                file.bytes[at] = rng.byte();
+            }
+        }
+    }
+}
+
+pub fn sweep(rng: &mut Rng) -> Case {
+    let packet = rng.pick(&Packet::ALL);
+    let what = rng.below(20);
+    // schemes that do not fit are for good bodies, where 10 can be reached
+    let scheme = if what < 4 { scheme(rng) } else { fitting_scheme(rng, packet) };
+    let mut time = time(rng);
+    if what == 4 {
+        spoil_time(rng, &mut time);
+    }
+    let mut file = file::file(rng, scheme, time.days, time.seconds);
+    let mut body = body::good(rng, packet);
+    let lent = if what == 5 { scant(rng, &body) } else { enough(rng, &body) };
+    match what {
+        6..=8 => spoil_file(rng, &mut file),
+        9..=17 => body::damage(rng, &mut body),
+        18 => {
+            body::damage(rng, &mut body);
+            body::damage_again(rng, &mut body);
+        }
+        _ => {}
+    }
+    let lent = if rng.one_in(16) { scant(rng, &body) } else { lent };
+    Case::Sweep { clock: time.clock, scheme, lent, file: file.bytes, body: body.bytes }
+}
+
+pub fn symbology(rng: &mut Rng) -> Case {
+    let packet = rng.pick(&Packet::ALL);
+    let mut body = body::good(rng, packet);
+    if !rng.one_in(4) {
+        body::damage(rng, &mut body);
+    }
+    Case::Sym { body: body.bytes }
+}
+
+pub fn token(rng: &mut Rng) -> Case {
+    let mut file = file::pieces(rng, 8);
+    if rng.one_in(3) {
+        // a token near byte 128
+        let at = rng.between(110, 128);
+        file.resize(at, rng.pick(b"x \r"));
+        file.extend(file::pieces(rng, 3));
+        file.extend(file::token(rng));
+        file.extend(file::pieces(rng, 2));
+    }
+    Case::Token { file }
+}
+
+pub fn message_header(rng: &mut Rng) -> Case {
+    let len = rng.pick(&[19, 20, 21, 22, 40, 126, 127, 128, 129, 150]);
+    let mut file = vec![rng.pick(&[0, 0xff, 0x20]); len];
+    for _ in 0..rng.between(1, 3) {
+        let at = match rng.below(3) {
+            0 => len.saturating_sub(rng.between(18, 24)),
+            1 => rng.between(100, 112),
+            _ => rng.below(len),
+        };
+        let code = if rng.one_in(4) { rng.u16() } else { rng.pick(&CODES) };
+        for (k, b) in code.to_be_bytes().iter().chain(&[0; 16]).chain(&[0xff, 0xff]).enumerate() {
+            // the sixteen bytes between are left as they are
+            if (at + k) < len && !(2..18).contains(&k) {
+                file[at + k] = *b;
+            }
+        }
+    }
+    Case::Mhb { file }
+}
+
+pub fn scan_time(rng: &mut Rng) -> Case {
+    let mut time = time(rng);
+    if rng.one_in(2) {
+        spoil_time(rng, &mut time);
+    }
+    Case::Time { clock: time.clock, days: time.days, seconds: time.seconds }
+}
+
+pub const KINDS: [FieldKind; 4] = [FieldKind::I16, FieldKind::U16, FieldKind::I32, FieldKind::Pair];
+
+/// A field inside the Rust's domain, near the file's end as often as not.
+pub fn field(rng: &mut Rng) -> Case {
+    let n = rng.below(40);
+    let file = rng.bytes(n);
+    let block = rng.pick(&[0, 1, 2, 7, 30, 0xffff_ffff]);
+    let index = match rng.below(8) {
+        0 => rng.between(1, 65_535),
+        1 => 65_535,
+        _ => rng.between(1, 22),
+    };
+    Case::Field { file, block, index, kind: rng.pick(&KINDS) }
+}
+
+/// A reading of several fields: the description block, or one of the scale fields.
+pub fn block(rng: &mut Rng) -> Case {
+    let scheme = scheme(rng);
+    let mut made = file::file(rng, scheme, 20_000, 3600);
+    if rng.one_in(3) {
+        made.cut(rng);
+    }
+    if rng.one_in(4) {
+        let value = rng.odd_f32().to_be_bytes();
+        let at = made.block() + rng.pick(&[42, 46]);
+        if at + 4 <= made.bytes.len() {
+            made.bytes[at..at + 4].copy_from_slice(&value);
+        }
+    }
+    let block = if rng.one_in(16) { rng.pick(&[0, 0xffff_ffff, 200]) } else { made.block() };
+    let file = made.bytes;
+    match rng.below(6) {
+        0 => Case::Pdb { file, block },
+        1 => Case::Lin { file, block },
+        2 => Case::Flt { file, block },
+        3 => Case::Thr { file, block },
+        _ => Case::Prc { file, block, factor: parameter(rng) },
+    }
+}
+
+pub fn levels(rng: &mut Rng) -> Case {
+    let thresholds = rng.bytes(32).try_into().unwrap();
+    Case::Leg { thresholds, post_scale: parameter(rng) }
+}
+
+pub fn trailing(rng: &mut Rng) -> Case {
+    let mut bytes = match rng.below(4) {
+        0 => vec![],
+        1 => vec![3],
+        2 => b"\r\r\n\x03".to_vec(),
+        _ => (0..rng.below(9)).map(|_| rng.pick(b"\r\n\x03\0x")).collect(),
+    };
+    if rng.one_in(3) && !bytes.is_empty() {
+        let at = rng.below(bytes.len());
+        bytes[at] = rng.pick(b"\r\n\x03\0\x02");
+    }
+    bytes.extend(vec![0; rng.pick(&[0, 0, 1, 3, 20])]);
+    Case::Trail { bytes }
+}
+
+/// Words that XDR items begin with.
+pub const WORDS: [u32; 16] =
+    [0, 1, 2, 3, 4, 5, 4095, 4096, 4097, 10_000, 10_001, 100_000, 100_001, 0x7fff_ffff, 0x8000_0000, 0xffff_ffff];
+
+pub fn xdr(rng: &mut Rng) -> Case {
+    let ops = (0..rng.between(1, 5)).map(|_| rng.pick(b"iufsal") as char).collect::<String>();
+    let mut payload = vec![];
+    if rng.one_in(4) {
+        // a few words whatever is read
+        for _ in 0..rng.below(6) {
+            payload.extend(rng.pick(&WORDS).to_be_bytes());
+        }
+        let more = rng.below(4);
+        payload.extend(rng.bytes(more));
+        return Case::Xdr { ops, payload };
+    }
+    for op in ops.chars() {
+        match op {
+            's' => string(rng, &mut payload),
+            'a' => {
+                let n = rng.below(4);
+                payload.extend((n as u32).to_be_bytes());
+                payload.extend(rng.bytes(4 * n));
+            }
+            'l' => {
+                let n: i32 = rng.pick(&[0, 0, 1, 2, 3, -1]);
+                payload.extend(n.to_be_bytes());
+                payload.extend(rng.u32().to_be_bytes());
+                for i in 0..n {
+                    string(rng, &mut payload);
+                    string(rng, &mut payload);
+                    if i + 1 < n {
+                        payload.extend(rng.u32().to_be_bytes());
+                    }
+                }
+            }
+            _ => payload.extend(rng.u32().to_be_bytes()),
+        }
+    }
+    match rng.below(6) {
+        0 => payload.truncate(rng.below(payload.len() + 1)),
+        1 => {
+            let at = rng.below(payload.len() / 4 + 1) * 4;
+            if at + 4 <= payload.len() {
+                payload[at..at + 4].copy_from_slice(&rng.pick(&WORDS).to_be_bytes());
+            }
+        }
+        _ => {}
+    }
+    Case::Xdr { ops, payload }
+}
+
+fn string(rng: &mut Rng, to: &mut Vec<u8>) {
+    let n = rng.below(10);
+    to.extend((n as u32).to_be_bytes());
+    for _ in 0..n {
+        to.push(if rng.one_in(3) {
+            0
+        } else if rng.one_in(12) {
+            rng.byte()
+        } else {
+            rng.byte() & 0x7f
+        });
+    }
+    while !to.len().is_multiple_of(4) {
+        to.push(rng.byte());
+    }
+}

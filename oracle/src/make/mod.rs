@@ -1,0 +1,8 @@
+//! Inputs made from a seed: product files, bodies of all three packets, good ones and damaged ones, and whole cases.
+pub mod body;
+pub mod cases;
+pub mod file;
+pub mod generic;
+mod random;
+
+pub use random::Rng;

@@ -1,0 +1,585 @@
+//! The Rust behind the port's entries: `compare --self` puts it in the port's place, so that the boundary, the cases and the
+//! counting can be tried without the port. With a slip set it answers wrongly in one known way, which `compare` must find.
+use crate::model;
+use crate::port::{Entries, BAD_ARGUMENT, FLOATS, INTS, OPS, PACKETS, SHORT_REPORT};
+use lines::{Answer, Case, FieldKind, Fields, Geometry, Item, Lent, Packet, Picture, Refusal, Scheme, Sweep};
+use std::slice::{from_raw_parts, from_raw_parts_mut};
+use std::sync::atomic::{AtomicUsize, Ordering};
+
+macro_rules! slips {
+    ($($name:ident,)*) => {
+        /// Wrong readings, each of which a run must tell from the right one.
+        #[derive(Debug, Clone, Copy, PartialEq, Eq)]
+        pub enum Slip {
+            $($name,)*
+        }
+        use Slip::*;
+        pub const SLIPS: &[Slip] = &[$($name,)*];
+    };
+}
+
+slips! {
+    ZeroRunEndsRow,
+    SurplusRunsRefused,
+    ListCapBeforePointer,
+    CentreWrapped,
+    RemainderMadePositive,
+    FirstRowRepeated,
+    NothingWritten,
+    BlankPicture,
+    AllRefused,
+    ShortBufferBeforeWalk,
+    PrefixSumMadeUp,
+    BytesLeftMadeUp,
+    NextRadialNamed,
+    RefusalWrites,
+    OnePlaceMore,
+    PositionAfterFailedRead,
+    ProductRoundedApart,
+    LaterToken,
+    ClockBeforeTime,
+    LevelCountOff,
+    CeilingForgotten,
+    LastRowOfMany,
+}
+
+/// 1 + the slip's place in `SLIPS`, or 0.
+static SLIP: AtomicUsize = AtomicUsize::new(0);
+
+pub fn set_slip(slip: Option<Slip>) {
+    let number = slip.map_or(0, |s| 1 + SLIPS.iter().position(|x| *x == s).unwrap());
+    SLIP.store(number, Ordering::SeqCst);
+}
+
+fn slips(slip: Slip) -> bool {
+    let number = SLIP.load(Ordering::SeqCst);
+    number > 0 && SLIPS[number - 1] == slip
+}
+
+pub fn entries() -> Entries {
+    Entries {
+        sweep,
+        symbology,
+        token,
+        message_header,
+        scan_time,
+        field,
+        pdb,
+        linear,
+        float,
+        precip,
+        threshold,
+        legacy16,
+        trailing,
+        known,
+        codes,
+        xdr,
+    }
+}
+
+/// Where an answer's numbers go.
+struct Report<'a> {
+    ints: &'a mut [i64],
+    floats: &'a mut [f64],
+}
+
+impl Report<'_> {
+    fn refuse(&mut self, r: &Refusal) -> u32 {
+        let (ints, floats) = Refusal::shape(r.number);
+        for (to, from) in self.ints.iter_mut().zip(&r.ints[..ints]) {
+            *to = *from as i64;
+        }
+        if floats == 1 {
+            self.floats[0] = r.float as f64;
+        }
+        match r.number {
+            22 if slips(PrefixSumMadeUp) => self.ints[1] += 1,
+            22 | 34 if slips(NextRadialNamed) => self.ints[0] += 1,
+            23 if slips(BytesLeftMadeUp) => self.ints[1] += 4,
+            _ => {}
+        }
+        r.number
+    }
+
+    fn fields(&mut self, f: &Fields) {
+        self.ints[..6].copy_from_slice(&[0, f.product_code.into(), f.vcp.into(), f.days.into(), f.seconds.into(), 0]);
+        self.floats[..4].copy_from_slice(&[f.latitude, f.longitude, f.height, f.elevation]);
+    }
+
+    fn picture(&mut self, p: &Picture) {
+        self.ints[6..10].copy_from_slice(&[PACKETS[p.packet as usize], p.radials as i64, p.bins as i64, 0]);
+        self.floats[4..6].copy_from_slice(&[0.0, 0.0]);
+        match p.geometry {
+            Geometry::RangeScale(r) => self.ints[9] = r.into(),
+            Geometry::Gates { width, first } => self.floats[4..6].copy_from_slice(&[width.into(), first.into()]),
+        }
+    }
+}
+
+unsafe fn report<'a>(ints: *mut i64, ints_len: usize, floats: *mut f64, floats_len: usize) -> Option<Report<'a>> {
+    if ints_len < INTS || floats_len < FLOATS {
+        return None;
+    }
+    Some(Report { ints: from_raw_parts_mut(ints, ints_len), floats: from_raw_parts_mut(floats, floats_len) })
+}
+
+unsafe fn bytes(pointer: *const u8, len: usize) -> Vec<u8> {
+    from_raw_parts(pointer, len).to_vec()
+}
+
+/// The Rust's answer, and 3 where the Rust would overflow.
+fn answer(case: &Case) -> Answer {
+    match radish::answer(case) {
+        Answer::Panic => Answer::Refused(Refusal::new(3, &[first_field(case)])),
+        answer => answer,
+    }
+}
+
+fn first_field(case: &Case) -> i128 {
+    match case {
+        Case::Field { index, .. } => *index as i128,
+        Case::Pdb { .. } => 2,
+        _ => 22,
+    }
+}
+
+/// A call that gives its answer in the report alone.
+unsafe fn reported(
+    case: Case,
+    (ints, ints_len): (*mut i64, usize),
+    (floats, floats_len): (*mut f64, usize),
+    accepted: impl FnOnce(&mut Report, Answer),
+) -> u32 {
+    let Some(mut report) = report(ints, ints_len, floats, floats_len) else { return SHORT_REPORT };
+    match answer(&case) {
+        Answer::Refused(r) => report.refuse(&r),
+        given => {
+            accepted(&mut report, given);
+            0
+        }
+    }
+}
+
+unsafe extern "C" fn sweep(
+    file: *const u8,
+    file_len: usize,
+    clock: u64,
+    scheme: u32,
+    parameter: f32,
+    body: *const u8,
+    body_len: usize,
+    azimuths: *mut f64,
+    azimuths_len: usize,
+    codes: *mut u16,
+    codes_len: usize,
+    physical: *mut f32,
+    physical_len: usize,
+    ints: *mut i64,
+    ints_len: usize,
+    floats: *mut f64,
+    floats_len: usize,
+) -> u32 {
+    let Some(mut report) = report(ints, ints_len, floats, floats_len) else { return SHORT_REPORT };
+    let Some(scheme) = Scheme::of(scheme as usize, parameter) else { return BAD_ARGUMENT };
+    let lent = Lent { azimuths: azimuths_len, codes: codes_len, physical: physical_len };
+    let (file, body) = (bytes(file, file_len), bytes(body, body_len));
+    let place = model::token_place(&file);
+    let case = Case::Sweep { clock: clock.into(), scheme, lent, file, body };
+    let azimuths = from_raw_parts_mut(azimuths, azimuths_len);
+    let codes = from_raw_parts_mut(codes, codes_len);
+    let physical = from_raw_parts_mut(physical, physical_len);
+    match slipped(&case, answer(&case)) {
+        Answer::Refused(r) => {
+            if slips(RefusalWrites) && matches!(r.number, 22 | 34) && !codes.is_empty() {
+                codes[0] = 1;
+            }
+            report.refuse(&r)
+        }
+        Answer::Sweep(s) => {
+            report.fields(&s.fields);
+            report.picture(&s.picture);
+            report.ints[0] = place.map_or(-1, |p| p as i64);
+            report.ints[5] = s.time;
+            report.ints[10] = s.scale.is_some() as i64;
+            if let Some(scale) = s.scale {
+                report.ints[11..13].copy_from_slice(&[scale.levels.into(), scale.floor.into()]);
+                report.floats[6..8].copy_from_slice(&[scale.minimum.into(), scale.step.into()]);
+            }
+            write(&s.picture, azimuths, codes);
+            if !slips(NothingWritten) {
+                physical[..s.physical.len()].copy_from_slice(&s.physical);
+            }
+            0
+        }
+        _ => unreachable!(),
+    }
+}
+
+fn write(picture: &Picture, azimuths: &mut [f64], codes: &mut [u16]) {
+    if slips(NothingWritten) {
+        return;
+    }
+    azimuths[..picture.radials].copy_from_slice(&picture.azimuths);
+    codes[..picture.codes.len()].copy_from_slice(&picture.codes);
+    if slips(OnePlaceMore) && codes.len() > picture.codes.len() {
+        codes[picture.codes.len()] = 0;
+    }
+}
+
+unsafe extern "C" fn symbology(
+    body: *const u8,
+    body_len: usize,
+    azimuths: *mut f64,
+    azimuths_len: usize,
+    codes: *mut u16,
+    codes_len: usize,
+    ints: *mut i64,
+    ints_len: usize,
+    floats: *mut f64,
+    floats_len: usize,
+) -> u32 {
+    let Some(mut report) = report(ints, ints_len, floats, floats_len) else { return SHORT_REPORT };
+    let case = Case::Sym { body: bytes(body, body_len) };
+    match slipped(&case, answer(&case)) {
+        Answer::Refused(r) => report.refuse(&r),
+        Answer::Picture(p) if azimuths_len < p.radials => report.refuse(&Refusal::new(36, &[0])),
+        Answer::Picture(p) if codes_len < p.codes.len() => report.refuse(&Refusal::new(36, &[1])),
+        Answer::Picture(p) => {
+            report.picture(&p);
+            write(&p, from_raw_parts_mut(azimuths, azimuths_len), from_raw_parts_mut(codes, codes_len));
+            0
+        }
+        _ => unreachable!(),
+    }
+}
+
+unsafe extern "C" fn token(
+    f: *const u8,
+    n: usize,
+    ints: *mut i64,
+    ints_len: usize,
+    floats: *mut f64,
+    floats_len: usize,
+) -> u32 {
+    let file = bytes(f, n);
+    let place = model::token_place(&file);
+    let later = |p: usize| (p + 1..file.len() - 5).find(|q| file[*q..q + 6] == file[p..p + 6]);
+    let place = if slips(LaterToken) { place.map(|p| later(p).unwrap_or(p)) } else { place };
+    reported(Case::Token { file: file.clone() }, (ints, ints_len), (floats, floats_len), |r, _| {
+        r.ints[0] = place.map_or(-1, |p| p as i64)
+    })
+}
+
+fn number(report: &mut Report, answer: Answer) {
+    if let Answer::Number(n) = answer {
+        report.ints[0] = n as i64;
+    }
+}
+
+unsafe extern "C" fn message_header(
+    f: *const u8,
+    n: usize,
+    ints: *mut i64,
+    ints_len: usize,
+    floats: *mut f64,
+    floats_len: usize,
+) -> u32 {
+    reported(Case::Mhb { file: bytes(f, n) }, (ints, ints_len), (floats, floats_len), number)
+}
+
+unsafe extern "C" fn scan_time(
+    days: u16,
+    seconds: i32,
+    clock: u64,
+    ints: *mut i64,
+    ints_len: usize,
+    floats: *mut f64,
+    floats_len: usize,
+) -> u32 {
+    let case = Case::Time { clock: clock.into(), days, seconds };
+    if slips(ClockBeforeTime) && clock > 1 << 40 {
+        return report(ints, ints_len, floats, floats_len).map_or(SHORT_REPORT, |mut r| r.refuse(&Refusal::new(6, &[])));
+    }
+    reported(case, (ints, ints_len), (floats, floats_len), number)
+}
+
+unsafe extern "C" fn field(
+    f: *const u8,
+    n: usize,
+    block: usize,
+    index: usize,
+    kind: u32,
+    ints: *mut i64,
+    ints_len: usize,
+    floats: *mut f64,
+    floats_len: usize,
+) -> u32 {
+    let kind = [FieldKind::I16, FieldKind::U16, FieldKind::I32, FieldKind::Pair][kind as usize];
+    let case = Case::Field { file: bytes(f, n), block, index, kind };
+    reported(case, (ints, ints_len), (floats, floats_len), |r, given| match given {
+        Answer::Pair(a, b) => r.floats[..2].copy_from_slice(&[a.into(), b.into()]),
+        given => number(r, given),
+    })
+}
+
+unsafe extern "C" fn pdb(
+    f: *const u8,
+    n: usize,
+    block: usize,
+    ints: *mut i64,
+    ints_len: usize,
+    floats: *mut f64,
+    floats_len: usize,
+) -> u32 {
+    reported(Case::Pdb { file: bytes(f, n), block }, (ints, ints_len), (floats, floats_len), |r, given| {
+        if let Answer::Fields(fields) = given {
+            r.fields(&fields);
+        }
+    })
+}
+
+fn scaling(report: &mut Report, answer: Answer) {
+    if let Answer::Scaling { minimum, step, levels } = answer {
+        report.floats[6..8].copy_from_slice(&[minimum.into(), step.into()]);
+        report.ints[11] = levels.into();
+    }
+}
+
+unsafe extern "C" fn linear(
+    f: *const u8,
+    n: usize,
+    block: usize,
+    ints: *mut i64,
+    ints_len: usize,
+    floats: *mut f64,
+    floats_len: usize,
+) -> u32 {
+    reported(Case::Lin { file: bytes(f, n), block }, (ints, ints_len), (floats, floats_len), scaling)
+}
+
+unsafe extern "C" fn float(
+    f: *const u8,
+    n: usize,
+    block: usize,
+    ints: *mut i64,
+    ints_len: usize,
+    floats: *mut f64,
+    floats_len: usize,
+) -> u32 {
+    reported(Case::Flt { file: bytes(f, n), block }, (ints, ints_len), (floats, floats_len), scaling)
+}
+
+unsafe extern "C" fn precip(
+    f: *const u8,
+    n: usize,
+    block: usize,
+    factor: f32,
+    ints: *mut i64,
+    ints_len: usize,
+    floats: *mut f64,
+    floats_len: usize,
+) -> u32 {
+    let case = Case::Prc { file: bytes(f, n), block, factor };
+    reported(case, (ints, ints_len), (floats, floats_len), |r, given| {
+        if let Answer::Precip { minimum, step, floor, ceiling } = given {
+            r.floats[6..8].copy_from_slice(&[minimum.into(), step.into()]);
+            r.ints[12..14].copy_from_slice(&[floor.into(), ceiling.map_or(-1, i64::from)]);
+        }
+    })
+}
+
+unsafe extern "C" fn threshold(
+    f: *const u8,
+    n: usize,
+    block: usize,
+    data: *mut u8,
+    data_len: usize,
+    ints: *mut i64,
+    ints_len: usize,
+    floats: *mut f64,
+    floats_len: usize,
+) -> u32 {
+    let data = from_raw_parts_mut(data, data_len);
+    reported(Case::Thr { file: bytes(f, n), block }, (ints, ints_len), (floats, floats_len), |_, given| {
+        if let Answer::Thresholds(bytes) = given {
+            data[..32].copy_from_slice(&bytes);
+        }
+    })
+}
+
+unsafe extern "C" fn legacy16(t: *const u8, n: usize, post_scale: f32, levels: *mut f32, levels_len: usize) -> u32 {
+    let (Ok(thresholds), 16) = (bytes(t, n).try_into(), levels_len) else { return BAD_ARGUMENT };
+    if let Answer::Levels(given) = answer(&Case::Leg { thresholds, post_scale }) {
+        from_raw_parts_mut(levels, 16).copy_from_slice(&given);
+    }
+    0
+}
+
+unsafe extern "C" fn trailing(
+    b: *const u8,
+    n: usize,
+    ints: *mut i64,
+    ints_len: usize,
+    floats: *mut f64,
+    floats_len: usize,
+) -> u32 {
+    reported(Case::Trail { bytes: bytes(b, n) }, (ints, ints_len), (floats, floats_len), |_, _| ())
+}
+
+unsafe extern "C" fn known(code: i16) -> u32 {
+    matches!(answer(&Case::Known { code }), Answer::Number(1)) as u32
+}
+
+unsafe extern "C" fn codes(codes: *mut u16, codes_len: usize) -> u32 {
+    let Answer::Codes(given) = answer(&Case::Codes) else { unreachable!() };
+    if codes_len != given.len() {
+        return BAD_ARGUMENT;
+    }
+    from_raw_parts_mut(codes, codes_len).copy_from_slice(&given);
+    0
+}
+
+unsafe extern "C" fn xdr(
+    op: u32,
+    payload: *const u8,
+    n: usize,
+    at: usize,
+    ints: *mut i64,
+    ints_len: usize,
+    floats: *mut f64,
+    floats_len: usize,
+) -> u32 {
+    let Some(mut report) = report(ints, ints_len, floats, floats_len) else { return SHORT_REPORT };
+    let payload = from_raw_parts(payload, n);
+    let op = OPS[op as usize..].chars().next().unwrap();
+    // the Rust reads what is left from the position on
+    let rest = payload.get(at..).unwrap_or(&[]);
+    let Answer::Xdr { items, refusal, position } = answer(&Case::Xdr { ops: op.into(), payload: rest.to_vec() }) else {
+        unreachable!()
+    };
+    report.ints[15] = (at + position) as i64;
+    if let Some(r) = refusal {
+        if slips(PositionAfterFailedRead) {
+            report.ints[15] = at as i64;
+        }
+        if slips(ListCapBeforePointer) && op == 'l' && r.number == 23 && rest.len() >= 4 {
+            let count = i32::from_be_bytes(rest[..4].try_into().unwrap());
+            if count > 10_000 {
+                return report.refuse(&Refusal::new(26, &[count.into(), 10_000]));
+            }
+        }
+        return report.refuse(&r);
+    }
+    match &items[0] {
+        Item::Int(v) => report.ints[0] = (*v).into(),
+        Item::Uint(v) => report.ints[0] = (*v).into(),
+        Item::Float(v) => report.floats[0] = (*v).into(),
+        Item::Text(_) => {
+            let body = &rest[4..4 + u32::from_be_bytes(rest[..4].try_into().unwrap()) as usize];
+            let len = body.iter().rposition(|b| *b != 0).map_or(0, |i| i + 1);
+            report.ints[..2].copy_from_slice(&[at as i64 + 4, len as i64]);
+        }
+        Item::Array(v) => report.ints[..2].copy_from_slice(&[at as i64 + 4, v.len() as i64]),
+        Item::List(_) => {}
+    }
+    0
+}
+
+/// The answer with the slip that is set, if it is one of the sweep or of symbology.
+fn slipped(case: &Case, answer: Answer) -> Answer {
+    if SLIP.load(Ordering::SeqCst) == 0 {
+        return answer;
+    }
+    let (body, lent, scheme) = match case {
+        Case::Sweep { body, lent, scheme, .. } => (body, Some(*lent), Some(*scheme)),
+        Case::Sym { body } => (body, None, None),
+        _ => return answer,
+    };
+    if let Some(refusal) = slipped_refusal(body, lent, &answer) {
+        return Answer::Refused(refusal);
+    }
+    match answer {
+        Answer::Picture(mut p) => {
+            slip_picture(&mut p);
+            Answer::Picture(p)
+        }
+        Answer::Sweep(mut s) => {
+            slip_picture(&mut s.picture);
+            slip_values(&mut s, scheme.unwrap());
+            Answer::Sweep(s)
+        }
+        refused => refused,
+    }
+}
+
+fn slipped_refusal(body: &[u8], lent: Option<Lent>, answer: &Answer) -> Option<Refusal> {
+    let accepted = !matches!(answer, Answer::Refused(_));
+    if slips(AllRefused) && accepted {
+        return Some(Refusal::new(12, &[body.len() as i128]));
+    }
+    if slips(ShortBufferBeforeWalk) && body.len() >= 30 && body[16] != 0 && body[..4] == [255, 255, 0, 1] {
+        let radials = u16::from_be_bytes([body[28], body[29]]) as usize;
+        if lent.is_some_and(|l| l.azimuths < radials) && matches!(answer, Answer::Refused(r) if r.number == 22) {
+            return Some(Refusal::new(36, &[0]));
+        }
+    }
+    if accepted && (slips(ZeroRunEndsRow) || slips(SurplusRunsRefused)) {
+        let layout = model::layout(body);
+        if layout.packet == Packet::Af1f {
+            for (radial, data) in layout.data.iter().enumerate() {
+                let mut sum = 0;
+                for b in &body[data.clone()] {
+                    let stop = if slips(ZeroRunEndsRow) { b >> 4 == 0 && sum < layout.bins } else { sum == layout.bins };
+                    if stop {
+                        return Some(Refusal::new(22, &[radial as i128, sum as i128, layout.bins as i128]));
+                    }
+                    sum += (b >> 4) as usize;
+                }
+            }
+        }
+    }
+    None
+}
+
+fn slip_picture(p: &mut Picture) {
+    if slips(CentreWrapped) && p.packet != Packet::P28 {
+        p.azimuths.iter_mut().for_each(|a| *a %= 360.0);
+    }
+    if slips(RemainderMadePositive) && p.packet == Packet::P28 {
+        p.azimuths.iter_mut().filter(|a| **a < 0.0).for_each(|a| *a += 360.0);
+    }
+    if slips(FirstRowRepeated) {
+        for cell in p.bins..p.codes.len() {
+            p.codes[cell] = p.codes[cell - p.bins];
+        }
+    }
+    if slips(BlankPicture) {
+        p.codes.fill(0);
+    }
+    if slips(LastRowOfMany) && p.radials > 20 {
+        p.codes[(p.radials - 1) * p.bins] ^= 1;
+    }
+}
+
+fn slip_values(s: &mut Sweep, scheme: Scheme) {
+    if slips(LevelCountOff) && matches!(scheme, Scheme::Precip(_)) {
+        if let Some(scale) = &mut s.scale {
+            scale.levels = scale.levels.saturating_add(1);
+        }
+    }
+    if let (Some(scale), true) = (s.scale, slips(ProductRoundedApart)) {
+        for (x, code) in s.physical.iter_mut().zip(&s.picture.codes) {
+            if !x.is_nan() {
+                *x = (scale.minimum - scale.floor as f32 * scale.step) + *code as f32 * scale.step;
+            }
+        }
+    }
+    if slips(CeilingForgotten) && matches!(scheme, Scheme::Precip(_)) {
+        let scale = s.scale.unwrap();
+        for (x, code) in s.physical.iter_mut().zip(&s.picture.codes) {
+            if *code >= scale.floor as u16 {
+                *x = scale.minimum + (*code as f32 - scale.floor as f32) * scale.step;
+            }
+        }
+    }
+}

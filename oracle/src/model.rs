@@ -1,0 +1,231 @@
+//! Document 01's sentences once more, worked out here without the Rust and without the port: where the token, the message
+//! header and the fields stand, what a code's physical value is, where the radials of an accepted body stand, which of its
+//! bytes are data or unread, and what row a radial's data make.
+use lines::{Packet, Refusal, Scheme};
+use std::ops::Range;
+
+/// The codes of the products.
+pub const CODES: [u16; 26] =
+    [19, 20, 25, 27, 28, 30, 56, 78, 79, 80, 94, 99, 153, 154, 155, 159, 161, 163, 165, 170, 172, 173, 174, 175, 176, 177];
+
+/// The first of six alphanumerics in the first 128 bytes.
+pub fn token_place(file: &[u8]) -> Option<usize> {
+    let head = &file[..file.len().min(128)];
+    let mut start = 0;
+    loop {
+        let cut = (start..head.len().saturating_sub(2)).find(|i| &head[*i..i + 3] == b"\r\r\n");
+        let end = cut.unwrap_or(head.len());
+        let blank = |b: u8| matches!(b, b' ' | b'\t' | b'\n' | 0x0c | b'\r');
+        let from = (start..end).find(|i| !blank(head[*i])).unwrap_or(end);
+        let to = (from..end).rev().find(|i| !blank(head[*i])).map_or(from, |i| i + 1);
+        if to - from == 6 && head[from..to].iter().all(u8::is_ascii_alphanumeric) {
+            return Some(from);
+        }
+        start = cut? + 3;
+    }
+}
+
+pub fn header_place(file: &[u8]) -> Option<usize> {
+    let halfword = |at: usize| u16::from_be_bytes([file[at], file[at + 1]]);
+    let ends = file.len().min(128).saturating_sub(20);
+    (0..ends).find(|at| CODES.contains(&halfword(*at)) && halfword(at + 18) == 0xffff)
+}
+
+/// Where a field of `width` bytes stands, if it is inside.
+pub fn field_place(len: usize, block: usize, index: usize, width: usize) -> Option<usize> {
+    let from = block as u128 + 2 * (index as u128).checked_sub(1)?;
+    if from + width as u128 <= len as u128 {
+        Some(from as usize)
+    } else {
+        None
+    }
+}
+
+/// The physical value of a code, from the scheme and the file's scale fields, each operation rounded once.
+/// The file must have the fields.
+pub fn physical_values(file: &[u8], block: usize, scheme: Scheme) -> Box<dyn Fn(u16) -> f32> {
+    let at = |index: usize| block + 2 * (index - 1);
+    let i16_of = |index: usize| i16::from_be_bytes([file[at(index)], file[at(index) + 1]]);
+    let f32_of = |from: usize| f32::from_be_bytes(file[from..from + 4].try_into().unwrap());
+    match scheme {
+        Scheme::Halfword => {
+            let (minimum, step) = (i16_of(22) as f32 / 10.0, i16_of(23) as f32 / 10.0);
+            Box::new(move |code| linear(code, 2, None, minimum, step))
+        }
+        Scheme::Float => {
+            let (scale, offset) = (f32_of(at(22)), f32_of(at(24)));
+            let (minimum, step) = ((2.0 - offset) / scale, 1.0 / scale);
+            Box::new(move |code| linear(code, 2, None, minimum, step))
+        }
+        Scheme::Precip(factor) => {
+            let (scale, offset) = (f32_of(at(22)), f32_of(at(24)));
+            let (step, zero_point) = (factor / scale, (-offset * factor) / scale);
+            let (largest, leading, trailing) = (i16_of(27) as u16 as i32, i16_of(28), i16_of(29));
+            let plain = (0..=8).contains(&leading) && (0..=8).contains(&trailing) && largest != 0;
+            let (floor, ceiling) =
+                if plain { (leading as u16, Some((largest - trailing as i32).max(0) as u16)) } else { (1, None) };
+            let minimum = floor as f32 * step + zero_point;
+            Box::new(move |code| linear(code, floor, ceiling, minimum, step))
+        }
+        Scheme::Legacy(post_scale) => {
+            let pairs = file[at(22)..at(22) + 32].to_vec();
+            Box::new(move |code| level(pairs[2 * code as usize], pairs[2 * code as usize + 1], post_scale))
+        }
+        Scheme::Class => Box::new(|code| if code == 0 { f32::NAN } else { code as f32 }),
+    }
+}
+
+fn linear(code: u16, floor: u16, ceiling: Option<u16>, minimum: f32, step: f32) -> f32 {
+    if code < floor || ceiling.is_some_and(|c| code > c) {
+        return f32::NAN;
+    }
+    minimum + (code - floor) as f32 * step
+}
+
+fn level(flag: u8, value: u8, post_scale: f32) -> f32 {
+    if flag & 0x80 != 0 {
+        return f32::NAN;
+    }
+    let sign = if flag & 0x01 != 0 { -1.0 } else { 1.0 };
+    let scale: f32 = match flag {
+        f if f & 0x40 != 0 => 1.0 / 100.0,
+        f if f & 0x10 != 0 => 1.0 / 10.0,
+        f if f & 0x20 != 0 => 1.0 / 20.0,
+        _ => 1.0,
+    };
+    value as f32 * sign * scale * post_scale
+}
+
+/// An accepted body: where each radial's data stand, and its unread bytes.
+pub struct Layout {
+    pub packet: Packet,
+    pub bins: usize,
+    pub data: Vec<Range<usize>>,
+    pub unread: Vec<Range<usize>>,
+}
+
+fn u16_at(body: &[u8], at: usize) -> usize {
+    u16::from_be_bytes([body[at], body[at + 1]]) as usize
+}
+
+fn u32_at(body: &[u8], at: usize) -> usize {
+    u32::from_be_bytes(body[at..at + 4].try_into().unwrap()) as usize
+}
+
+pub fn layout(body: &[u8]) -> Layout {
+    match u16_at(body, 16) {
+        16 => radial_layout(body, Packet::P16),
+        28 => generic_layout(body),
+        _ => radial_layout(body, Packet::Af1f),
+    }
+}
+
+fn radial_layout(body: &[u8], packet: Packet) -> Layout {
+    let mut unread = vec![4..16, 22..26];
+    if packet == Packet::Af1f {
+        unread.push(18..20);
+    }
+    let mut data = vec![];
+    let mut at = 30;
+    for _ in 0..u16_at(body, 28) {
+        let count = u16_at(body, at) * if packet == Packet::Af1f { 2 } else { 1 };
+        data.push(at + 6..at + 6 + count);
+        at += 6 + count;
+    }
+    unread.push(at..body.len());
+    Layout { packet, bins: u16_at(body, 20), data, unread }
+}
+
+/// A walk over the items of a packet 28 payload.
+struct Items<'a> {
+    body: &'a [u8],
+    at: usize,
+    unread: Vec<Range<usize>>,
+}
+
+impl Items<'_> {
+    /// A number that is read: a length, a count, the component's type, gate figures, an azimuth, a width.
+    fn word(&mut self) -> usize {
+        self.at += 4;
+        u32_at(self.body, self.at - 4)
+    }
+
+    fn unread_words(&mut self, words: usize) {
+        self.unread.push(self.at..self.at + 4 * words);
+        self.at += 4 * words;
+    }
+
+    fn string(&mut self) {
+        let len = self.word();
+        self.unread_words(len.div_ceil(4));
+    }
+
+    fn parameters(&mut self) {
+        let count = (self.word() as u32 as i32).max(0);
+        self.unread_words(1);
+        for i in 0..count {
+            self.string();
+            self.string();
+            if i + 1 < count {
+                self.unread_words(1);
+            }
+        }
+    }
+}
+
+fn generic_layout(body: &[u8]) -> Layout {
+    let end = 24 + u32_at(body, 20);
+    let mut items = Items { body, at: 24, unread: vec![4..16, 18..20, end..body.len()] };
+    items.string(); // name
+    items.string(); // description
+    items.unread_words(3); // code, type, time
+    items.string(); // radar
+    items.unread_words(12); // from latitude to the size before packing
+    items.parameters();
+    items.word(); // one component
+    items.unread_words(1);
+    items.word(); // its type
+    items.string(); // description
+    items.word(); // gate width
+    items.word(); // first gate
+    items.parameters();
+    let radials = items.word();
+    let (mut bins, mut data) = (0, vec![]);
+    for _ in 0..radials {
+        items.word(); // azimuth
+        items.unread_words(1); // elevation
+        items.word(); // width
+        bins = items.word();
+        items.string(); // attributes
+        let count = items.word();
+        data.push(items.at..items.at + 4 * count);
+        items.at += 4 * count;
+    }
+    Layout { packet: Packet::P28, bins, data, unread: items.unread }
+}
+
+/// The row that a radial's data make, or the refusal that names the radial.
+pub fn row(packet: Packet, bins: usize, radial: usize, data: &[u8]) -> Result<Vec<u16>, Refusal> {
+    match packet {
+        Packet::P16 => Ok(data[..bins].iter().map(|b| *b as u16).collect()),
+        Packet::Af1f => {
+            // every prefix of the run lengths, with its sum; the greatest not over bins must be bins
+            let lengths = data.iter().map(|b| (b >> 4) as usize);
+            let sums = lengths.scan(0, |sum, n| {
+                *sum += n;
+                Some(*sum)
+            });
+            let greatest = sums.filter(|s| *s <= bins).max().unwrap_or(0);
+            if greatest != bins {
+                return Err(Refusal::new(22, &[radial as i128, greatest as i128, bins as i128]));
+            }
+            let cells = data.iter().flat_map(|b| std::iter::repeat_n((b & 15) as u16, (b >> 4) as usize));
+            Ok(cells.take(bins).collect())
+        }
+        Packet::P28 => {
+            let levels = data.chunks(4).map(|w| i32::from_be_bytes(w.try_into().unwrap()));
+            let codes = levels.enumerate().map(|(gate, n)| u16::try_from(n).map_err(|_| (gate, n)));
+            codes.collect::<Result<_, _>>().map_err(|(gate, n)| Refusal::new(34, &[radial as i128, gate as i128, n as i128]))
+        }
+    }
+}

@@ -1,0 +1,561 @@
+//! A list of a few hundred small cases, for a stored list: the edges by hand, and samples of every refusal and of every packet
+//! under every scheme.
+use crate::compare::Counts;
+use crate::make::{cases, Rng};
+use lines::{Case, FieldKind, Lent, Packet, Scheme};
+use std::collections::HashMap;
+
+const CLOCK: i128 = 1_800_000_000;
+const ONE: f32 = 1.0;
+
+/// A file of a small product: `N0BLOT`, the header, and the block up to `len` bytes.
+fn file(len: usize, changes: &[(usize, &[u8])]) -> Vec<u8> {
+    let mut block = [0; 102];
+    let mut set = |field: usize, bytes: &[u8]| block[2 * (field - 1)..][..bytes.len()].copy_from_slice(bytes);
+    set(1, &[0xff, 0xff]);
+    set(2, &41_881i32.to_be_bytes());
+    set(4, &(-88_084i32).to_be_bytes());
+    set(6, &650i16.to_be_bytes());
+    set(7, &153i16.to_be_bytes());
+    set(9, &215u16.to_be_bytes());
+    set(12, &20_000u16.to_be_bytes());
+    set(13, &3600i32.to_be_bytes());
+    set(21, &5i16.to_be_bytes());
+    for (field, bytes) in changes {
+        set(*field, bytes);
+    }
+    let mut bytes = b"N0BLOT\r\r\n\0\x99".to_vec();
+    bytes.extend([0; 16]);
+    bytes.extend(&block[..len]);
+    bytes
+}
+
+/// Minimum and step in tenths, and the level count.
+fn halfword(minimum: i16, step: i16, levels: u16) -> Vec<u8> {
+    let scale = [minimum.to_be_bytes(), step.to_be_bytes(), levels.to_be_bytes()].concat();
+    file(48, &[(22, &scale)])
+}
+
+/// Scale and offset.
+fn float(scale: f32, offset: f32) -> Vec<u8> {
+    file(50, &[(22, &scale.to_be_bytes()), (24, &offset.to_be_bytes())])
+}
+
+/// Scale and offset, largest, leading, trailing.
+fn precip(scale: f32, offset: f32, flags: [u16; 3]) -> Vec<u8> {
+    let flags = flags.map(u16::to_be_bytes).concat();
+    file(58, &[(22, &scale.to_be_bytes()), (24, &offset.to_be_bytes()), (27, &flags)])
+}
+
+/// Levels of every flag, and two of value 0.
+fn legacy() -> Vec<u8> {
+    let pairs = [
+        [0x00, 0],
+        [0x01, 0],
+        [0x10, 25],
+        [0x11, 25],
+        [0x20, 25],
+        [0x21, 40],
+        [0x40, 25],
+        [0x41, 25],
+        [0x80, 7],
+        [0x81, 7],
+        [0x30, 9],
+        [0x50, 9],
+        [0x60, 9],
+        [0x70, 9],
+        [0x02, 200],
+        [0xff, 255],
+    ];
+    file(74, &[(22, &pairs.concat())])
+}
+
+fn class() -> Vec<u8> {
+    file(42, &[])
+}
+
+fn header(code: u16, first_bin: u16, bins: u16, radials: u16) -> Vec<u8> {
+    let mut b = [0xffff, 1, 0, 0, 0, 0, 0, 0, code, first_bin, bins, 999, 998, 997, radials].map(u16::to_be_bytes).concat();
+    b.truncate(30);
+    b
+}
+
+/// A radial: count, start, width, data.
+type Radial<'a> = (u16, u16, u16, &'a [u8]);
+
+fn radials(code: u16, bins: u16, rows: &[Radial]) -> Vec<u8> {
+    let mut b = header(code, 0, bins, rows.len() as u16);
+    for (count, start, width, data) in rows {
+        b.extend([*count, *start, *width].map(u16::to_be_bytes).concat());
+        b.extend(*data);
+    }
+    b
+}
+
+fn p16(bins: u16, rows: &[Radial]) -> Vec<u8> {
+    radials(16, bins, rows)
+}
+
+fn af1f(bins: u16, rows: &[Radial]) -> Vec<u8> {
+    radials(0xaf1f, bins, rows)
+}
+
+/// A packet 28 body around a payload, whose length is stated apart.
+fn generic(len: i32, payload: &[u8]) -> Vec<u8> {
+    let mut b = [0xffff, 1, 0, 0, 0, 0, 0, 0, 28, 0].map(u16::to_be_bytes).concat();
+    b.extend(len.to_be_bytes());
+    b.extend(payload);
+    b
+}
+
+fn wrapped(payload: &[u8]) -> Vec<u8> {
+    generic(payload.len() as i32, payload)
+}
+
+fn words(list: &[u32]) -> Vec<u8> {
+    list.iter().flat_map(|w| w.to_be_bytes()).collect()
+}
+
+/// The product block without strings, parameters and components.
+fn product() -> Vec<u8> {
+    words(&[0; 18])
+}
+
+fn components(count: i32, of: &[Vec<u8>]) -> Vec<u8> {
+    let mut payload = product();
+    payload.extend(words(&[0, 77, count as u32, 78]));
+    payload.extend(of.join(&words(&[79])[..]));
+    payload
+}
+
+/// A radial of packet 28: azimuth, width, bins, levels.
+struct Ray<'a>(f32, f32, i32, &'a [i32]);
+
+fn component(kind: u32, radials: i32, rays: &[Ray]) -> Vec<u8> {
+    let mut b = words(&[kind, 0, 250f32.to_bits(), 125f32.to_bits(), 0, 80, radials as u32]);
+    for Ray(azimuth, width, bins, levels) in rays {
+        b.extend(words(&[azimuth.to_bits(), 0x3f00_0000, width.to_bits(), *bins as u32, 0, levels.len() as u32]));
+        b.extend(levels.iter().flat_map(|n| n.to_be_bytes()));
+    }
+    b
+}
+
+fn p28(rays: &[Ray]) -> Vec<u8> {
+    wrapped(&components(1, &[component(1, rays.len() as i32, rays)]))
+}
+
+/// A file for each scheme, of a kind that occurs.
+pub fn bench_files() -> Vec<(&'static str, Scheme, Vec<u8>)> {
+    vec![
+        ("halfword", Scheme::Halfword, halfword(-320, 5, 254)),
+        ("float", Scheme::Float, float(16.0, 128.0)),
+        ("precipitation", Scheme::Precip(0.254), precip(10.0, 1.0, [250, 1, 2])),
+        ("precipitation without ceiling", Scheme::Precip(0.254), precip(10.0, 1.0, [0, 1, 2])),
+        ("legacy", Scheme::Legacy(0.514444), legacy()),
+        ("class", Scheme::Class, class()),
+    ]
+}
+
+struct List(Vec<(String, Case)>);
+
+impl List {
+    fn add(&mut self, name: &str, case: Case) {
+        self.0.push((name.into(), case));
+    }
+
+    fn sweep(&mut self, name: &str, clock: i128, scheme: Scheme, file: Vec<u8>, body: Vec<u8>) {
+        let lent = Lent { azimuths: 10, codes: 64, physical: 64 };
+        self.add(name, Case::Sweep { clock, scheme, lent, file, body });
+    }
+
+    fn class(&mut self, name: &str, body: Vec<u8>) {
+        self.sweep(name, CLOCK, Scheme::Class, class(), body);
+    }
+}
+
+/// The lines of document 01, the edges of its table, and places that are easily misread.
+pub fn edges() -> Vec<(String, Case)> {
+    let mut list = List(vec![]);
+    beams(&mut list);
+    heads(&mut list);
+    scales(&mut list);
+    grids(&mut list);
+    payloads(&mut list);
+    buffers(&mut list);
+    smaller(&mut list);
+    list.0
+}
+
+/// P1 to P13 and the slips.
+fn beams(list: &mut List) {
+    let seven_nine = p16(2, &[(2, 0, 10, &[7, 9])]);
+    let runs = |data: &[u8]| af1f(5, &[(data.len() as u16 / 2, 0, 10, data)]);
+    list.class("p1", header(16, 0, 2, 1)[..17].to_vec());
+    list.class("p2", header(16, 0, 2, 1)[..18].to_vec());
+    list.class("p3", header(17, 0, 2, 1)[..18].to_vec());
+    list.class("p4", wrapped(&[]));
+    list.class("p5", seven_nine.clone());
+    list.class("p6_100", p16(2, &[(2, 0, 100, &[7, 9])]));
+    list.class("p6_101", p16(2, &[(2, 0, 101, &[7, 9])]));
+    list.class("p7", runs(&[0x31, 0x25]));
+    list.class("p8", runs(&[0x31, 0x35]));
+    list.class("p9", runs(&[0x31, 0x25, 0xf7, 0]));
+    list.class("p10", p16(2, &[(2, 3599, 10, &[7, 9])]));
+    list.class("p10_af1f", af1f(5, &[(1, 3599, 10, &[0x31, 0x25])]));
+    let mut pairs = [0x80; 32];
+    pairs[..2].copy_from_slice(&[0x21, 40]);
+    list.add("p11", Case::Leg { thresholds: pairs, post_scale: 1.0 });
+    list.add("p12", Case::Prc { file: precip(1.0, 0.0, [100, 9, 0]), block: 27, factor: 1.0 });
+    list.add("p13", Case::Time { clock: 0, days: 1, seconds: 0 });
+    list.class("slip_zero_run", runs(&[0x31, 0x00, 0x0f, 0x25]));
+    list.add("slip_cap_before_pointer", Case::Xdr { ops: "l".into(), payload: words(&[10_001]) });
+    list.add("slip_cap_after_pointer", Case::Xdr { ops: "l".into(), payload: words(&[10_001, 0]) });
+    let good = component(1, 1, &[Ray(0.0, 1.0, 1, &[5])]);
+    let bad = component(1, 1, &[Ray(0.0, 1.0, 1, &[70_000])]);
+    list.class("slip_components_walked", wrapped(&components(2, &[good.clone(), bad])));
+    list.class("slip_components_counted", wrapped(&components(2, &[good.clone(), good])));
+}
+
+/// 1 to 6.
+fn heads(list: &mut List) {
+    let body = p16(2, &[(2, 0, 10, &[7, 9])]);
+    let class =
+        |list: &mut List, name: &str, clock: i128, file: Vec<u8>| list.sweep(name, clock, Scheme::Class, file, body.clone());
+    class(list, "nothing", CLOCK, vec![]);
+    let mut no_token = self::class();
+    no_token[2] = b'-';
+    class(list, "no_token", CLOCK, no_token);
+    let mut no_header = self::class();
+    no_header[10] = 152;
+    class(list, "no_header", CLOCK, no_header);
+    for (end, index) in [(6, 2), (10, 4), (12, 6), (14, 7), (18, 9), (24, 12), (28, 13), (42, 21)] {
+        class(list, &format!("field_{index}"), CLOCK, file(end - 1, &[]));
+    }
+    for (scheme, end, name) in [
+        (Scheme::Halfword, 44, "hw22"),
+        (Scheme::Halfword, 46, "hw23"),
+        (Scheme::Halfword, 48, "hw24"),
+        (Scheme::Float, 50, "pair"),
+        (Scheme::Legacy(1.0), 74, "thresholds"),
+    ] {
+        list.sweep(&format!("cut_{name}"), CLOCK, scheme, file(end - 1, &[(22, &ONE.to_be_bytes())]), body.clone());
+    }
+    for end in [50, 54, 56, 58] {
+        let file = file(end - 1, &[(22, &ONE.to_be_bytes())]);
+        list.sweep(&format!("cut_precip_{end}"), CLOCK, Scheme::Precip(1.0), file, body.clone());
+    }
+    class(list, "days_0", CLOCK, file(42, &[(12, &[0, 0])]));
+    class(list, "days_0_cut", CLOCK, file(41, &[(12, &[0, 0])]));
+    class(list, "seconds_below", CLOCK, file(42, &[(13, &(-1i32).to_be_bytes())]));
+    class(list, "seconds_86399", CLOCK, file(42, &[(13, &86_399i32.to_be_bytes())]));
+    class(list, "seconds_86400", CLOCK, file(42, &[(13, &86_400i32.to_be_bytes())]));
+    let scan = 19_999 * 86_400 + 3600;
+    class(list, "ahead_86400", scan - 86_400, self::class());
+    class(list, "ahead_86401", scan - 86_401, self::class());
+    class(list, "clock_0", 0, self::class());
+    class(list, "clock_top", 1 << 40, self::class());
+    class(list, "clock_over", (1 << 40) + 1, self::class());
+    class(list, "clock_over_days_0", (1 << 40) + 1, file(42, &[(12, &[0, 0])]));
+    list.add("time_most_ahead", Case::Time { clock: 0, days: 65_535, seconds: 86_399 });
+    list.sweep("clock_over_no_body", (1 << 40) + 1, Scheme::Class, self::class(), vec![]);
+}
+
+/// 7 to 10, every packet under every scheme.
+fn scales(list: &mut List) {
+    let codes: Vec<u8> = (0..8).chain([254, 255]).collect();
+    let bodies = [
+        ("16", p16(10, &[(10, 0, 10, &codes), (11, 3595, 10, &[9, 8, 7, 6, 5, 4, 3, 2, 1, 0, 99])])),
+        (
+            "af1f",
+            af1f(
+                16,
+                &[(8, 0, 10, &std::array::from_fn::<u8, 16, _>(|i| 0x10 | i as u8)), (2, 10, 10, &[0xf3, 0x00, 0x1e, 0xff])],
+            ),
+        ),
+        ("28", p28(&[Ray(0.0, 1.0, 4, &[0, 1, 2, 300]), Ray(359.5, 1.0, 4, &[3, 8, 65_534, 65_535])])),
+    ];
+    // with the packets of each: 0 is 16, 1 AF1F, 2 is 28
+    let (any, bytes, one): (&[usize], &[usize], &[usize]) = (&[0, 1, 2], &[0, 1], &[0]);
+    for (name, packets, scheme, file) in [
+        ("halfword", any, Scheme::Halfword, halfword(-320, 5, 254)),
+        ("halfword_levels", bytes, Scheme::Halfword, halfword(-32_768, 32_767, 65_535)),
+        ("halfword_step_0", any, Scheme::Halfword, halfword(-320, 0, 254)),
+        ("halfword_step_down", bytes, Scheme::Halfword, halfword(-320, -5, 254)),
+        ("float", any, Scheme::Float, float(300.0, -60.5)),
+        ("float_down", bytes, Scheme::Float, float(-16.0, 128.0)),
+        ("float_tiny", one, Scheme::Float, float(f32::from_bits(1), 0.0)),
+        ("float_tiny_down", one, Scheme::Float, float(f32::from_bits(0x8000_0001), 0.0)),
+        ("float_scale_0", one, Scheme::Float, float(0.0, 0.0)),
+        ("float_scale_minus_0", one, Scheme::Float, float(-0.0, 0.0)),
+        ("float_scale_nan", one, Scheme::Float, float(f32::NAN, f32::NAN)),
+        ("float_offset_inf", one, Scheme::Float, float(1.0, f32::INFINITY)),
+        ("precip", any, Scheme::Precip(0.254), precip(10.0, 1.0, [255, 1, 2])),
+        ("precip_rate", any, Scheme::Precip(25.4), precip(1000.0, 2.5, [65_535, 0, 0])),
+        ("precip_no_ceiling", any, Scheme::Precip(0.254), precip(10.0, 1.0, [0, 3, 3])),
+        ("precip_leading_9", any, Scheme::Precip(0.254), precip(10.0, 1.0, [255, 9, 0])),
+        ("precip_leading_down", one, Scheme::Precip(0.254), precip(10.0, 1.0, [255, 65_535, 0])),
+        ("precip_ceiling_low", any, Scheme::Precip(1.0), precip(10.0, 1.0, [5, 8, 8])),
+        ("precip_down", any, Scheme::Precip(1.0), precip(-10.0, 1.0, [255, 2, 0])),
+        ("precip_nan", one, Scheme::Precip(f32::NAN), precip(10.0, 1.0, [255, 2, 0])),
+        ("precip_factor_0", one, Scheme::Precip(-0.0), precip(10.0, 1.0, [255, 2, 0])),
+        ("precip_scale_inf", one, Scheme::Precip(1.0), precip(f32::INFINITY, 1.0, [255, 2, 0])),
+        ("precip_offset_nan", one, Scheme::Precip(1.0), precip(10.0, f32::NAN, [255, 2, 0])),
+        ("legacy", any, Scheme::Legacy(1.0), legacy()),
+        ("legacy_knots", &[1], Scheme::Legacy(0.514444), legacy()),
+        ("legacy_inf", &[1], Scheme::Legacy(f32::INFINITY), legacy()),
+        ("class", any, Scheme::Class, class()),
+    ] {
+        for packet in packets {
+            let (number, body) = &bodies[*packet];
+            list.sweep(&format!("{number}_{name}"), CLOCK, scheme, file.clone(), body.clone());
+        }
+    }
+    list.sweep("scale_before_body", CLOCK, Scheme::Float, float(0.0, 0.0), vec![]);
+    list.sweep("body_before_step", CLOCK, Scheme::Halfword, halfword(0, 0, 1), vec![]);
+}
+
+/// 12 to 22.
+fn grids(list: &mut List) {
+    for (name, body) in [
+        ("body_0", vec![]),
+        ("body_29", header(16, 0, 2, 1)[..29].to_vec()),
+        ("body_29_af1f", header(0xaf1f, 0, 2, 1)[..29].to_vec()),
+        ("body_30", header(16, 0, 2, 1)),
+        ("divider", [&[0, 7], &header(16, 0, 2, 1)[2..]].concat()),
+        ("block_id", [&[0xff, 0xff, 0, 2], &header(16, 0, 2, 1)[4..]].concat()),
+        ("code_signed", header(0xaf20, 0, 2, 1)),
+        ("code_0", header(0, 0, 2, 1)),
+        ("no_bins", header(0xaf1f, 0, 0, 3)),
+        ("no_radials", header(16, 0, 3, 0)),
+        ("neither", header(16, 5, 0, 0)),
+        ("most_cells", header(16, 1, 65_535, 65_535)),
+        ("cells_over", header(0xaf1f, 0, 2001, 2000)),
+        ("cells_2000", header(16, 0, 2000, 2000)),
+        ("cells_2000_af1f", header(0xaf1f, 0, 2000, 2000)),
+        ("first_bin", header(16, 1, 5, 5)),
+        ("first_bin_af1f", {
+            let mut b = af1f(1, &[(1, 0, 10, &[0x1f, 0])]);
+            b[18..20].fill(0xff);
+            b
+        }),
+        ("allocation", header(16, 0, 5, 5)),
+        ("allocation_one_short", p16(2, &[(2, 0, 10, &[7])])),
+        ("no_six_bytes", p16(1, &[(8, 0, 10, &[1, 2, 3, 4, 5, 6, 7, 8]), (1, 0, 10, &[9])])[..44].to_vec()),
+        ("no_six_bytes_af1f", af1f(1, &[(0, 0, 10, &[])])[..35].to_vec()),
+        ("second_radial_cut", af1f(1, &[(1, 0, 10, &[0x10, 0]), (0, 0, 1, &[])])[..43].to_vec()),
+        ("width_0", af1f(5, &[(9, 0, 0, &[])])),
+        ("width_65535", p16(1, &[(1, 0, 65_535, &[1])])),
+        ("count_past_end", af1f(5, &[(3, 0, 10, &[0x31, 0x25])])),
+        ("count_under_bins", p16(2, &[(1, 0, 10, &[7, 9])])),
+        ("count_65535", p16(2, &[(65_535, 0, 10, &[7, 9])])),
+        ("row_and_more", p16(2, &[(5, 0, 10, &[7, 9, 1, 2, 3]), (2, 10, 10, &[4, 5])])),
+        ("no_runs", af1f(5, &[(0, 0, 10, &[])])),
+        ("first_run_over", af1f(5, &[(1, 0, 10, &[0xf1, 0x51])])),
+        ("over_then_fits", af1f(5, &[(2, 0, 10, &[0x31, 0x35, 0x21, 0])])),
+        ("zeros_only", af1f(5, &[(2, 0, 10, &[0x05, 0x06, 0, 0])])),
+        ("short_in_second", af1f(3, &[(1, 0, 10, &[0x31, 0]), (1, 10, 10, &[0x11, 0x15])])),
+        ("start_65535", p16(1, &[(1, 65_535, 10, &[120])])),
+        ("after_the_radials", [p16(1, &[(1, 5, 10, &[3])]), vec![1, 2, 3]].concat()),
+    ] {
+        list.class(name, body);
+    }
+}
+
+/// 23 to 35.
+fn payloads(list: &mut List) {
+    let one = |rays: &[Ray], radials: i32| wrapped(&components(1, &[component(1, radials, rays)]));
+    let ray = || Ray(0.0, 1.0, 1, &[5]);
+    let string = |len: u32, rest: &[u8]| wrapped(&[&words(&[len])[..], rest].concat());
+    for (name, body) in [
+        ("packet_23", generic(0, &[])[..23].to_vec()),
+        ("length_negative", generic(-1, &[0; 8])),
+        ("length_over", generic(9, &[0; 8])),
+        ("length_lowest", generic(i32::MIN, &[0; 8])),
+        ("string_body", string(5, b"abcd")),
+        ("padding", string(1, b"ab\0")),
+        ("int", wrapped(&product()[..10])),
+        ("uint", wrapped(&product()[..18])),
+        ("float", wrapped(&product()[..26])),
+        ("string_4097", string(4097, b"")),
+        ("string_most", string(u32::MAX, b"")),
+        ("list_10001", wrapped(&[product(), words(&[10_001, 0])].concat())),
+        ("list_negative", wrapped(&[product(), words(&[u32::MAX, 0, 0, 0])].concat())),
+        ("no_component", wrapped(&[components(0, &[]), vec![1, 2, 3, 4]].concat())),
+        ("components_negative", wrapped(&components(-5, &[]))),
+        ("component_type", wrapped(&components(1, &[component(2, 1, &[ray()])]))),
+        ("second_type", wrapped(&components(2, &[component(1, 1, &[ray()]), component(2, 1, &[])]))),
+        ("radials_0", one(&[], 0)),
+        ("radials_negative", one(&[], -3)),
+        ("radials_100001", one(&[], 100_001)),
+        ("bins_negative", one(&[ray(), Ray(0.0, 1.0, -1, &[5])], 2)),
+        ("bins_0", one(&[Ray(0.0, 1.0, 0, &[])], 1)),
+        ("bins_negative_array_cut", wrapped(&components(1, &[component(1, 1, &[Ray(0.0, 1.0, -1, &[5])])])[..140])),
+        ("bins_unlike", one(&[ray(), Ray(0.0, 1.0, 2, &[5])], 2)),
+        ("data_unlike", one(&[Ray(0.0, 1.0, 100, &[5])], 100_000)),
+        ("grid_over", one(&[Ray(0.0, 1.0, 41, &[70_000; 41])], 100_000)),
+        ("level_over", one(&[Ray(0.0, 1.0, 3, &[5, 65_536, -1])], 2)),
+        ("level_negative", one(&[ray(), Ray(0.0, 1.0, 1, &[-1])], 2)),
+        ("level_most", one(&[Ray(0.0, 1.0, 2, &[65_535, 0])], 1)),
+        ("left_over", wrapped(&[components(1, &[component(1, 1, &[ray()])]), vec![0]].concat())),
+        ("past_the_payload", [p28(&[ray()]), vec![9; 5]].concat()),
+        ("centre_360", p28(&[Ray(359.5, 1.0, 1, &[5])])),
+        ("centre_negative", p28(&[Ray(-1.0, 0.5, 1, &[5])])),
+        ("centre_minus_zero", p28(&[Ray(-360.0, 0.0, 1, &[5])])),
+        ("centre_far", p28(&[Ray(1.0e30, 1.0, 1, &[5])])),
+        ("centre_infinite", p28(&[Ray(f32::INFINITY, 1.0, 1, &[5])])),
+        ("centre_nan", p28(&[Ray(0.0, f32::NAN, 1, &[5])])),
+    ] {
+        list.class(name, body);
+    }
+    let array = components(1, &[component(1, 1, &[Ray(0.0, 1.0, 2, &[5, 6])])]);
+    let mut cut = wrapped(&array[..array.len() - 4]);
+    list.class("array_cut", cut.clone());
+    let count = cut.len() - 8;
+    cut[count..count + 4].copy_from_slice(&100_001u32.to_be_bytes());
+    list.class("array_100001", cut);
+}
+
+/// 36.
+fn buffers(list: &mut List) {
+    let body = p16(2, &[(2, 0, 10, &[7, 9]), (2, 10, 10, &[1, 2])]);
+    for (name, azimuths, codes, physical) in [
+        ("lent_exactly", 2, 4, 4),
+        ("lent_azimuths", 1, 4, 4),
+        ("lent_codes", 2, 3, 4),
+        ("lent_physical", 2, 4, 3),
+        ("lent_last_two", 2, 0, 0),
+        ("lent_nothing", 0, 0, 0),
+    ] {
+        let lent = Lent { azimuths, codes, physical };
+        list.add(name, Case::Sweep { clock: CLOCK, scheme: Scheme::Class, lent, file: class(), body: body.clone() });
+    }
+    let nothing = Lent { azimuths: 0, codes: 0, physical: 0 };
+    let sweep = |scheme, file, body| Case::Sweep { clock: CLOCK, scheme, lent: nothing, file, body };
+    list.add("step_before_lent", sweep(Scheme::Halfword, halfword(0, 0, 1), body.clone()));
+    list.add("mismatch_before_lent", sweep(Scheme::Legacy(1.0), legacy(), body));
+    list.add("walk_before_lent", sweep(Scheme::Class, class(), af1f(5, &[(1, 0, 10, &[0x11, 0])])));
+}
+
+/// The readings below the sweep.
+fn smaller(list: &mut List) {
+    for (name, text) in [
+        ("token_bare", &b"N0BLOT"[..]),
+        ("token_blanks", b"\t N0blot \r\n\x0c\r\r\nABCDEF"),
+        ("token_vertical_tab", b"\x0bN0BLOT"),
+        ("token_second", b"N0BLO\r\r\nN0BLOTX\r\r\nabc123\r\r\nABCDEF"),
+        ("token_three_returns", b"abc\r\r\r\nN0BLOT"),
+        ("token_inner_blank", b"N0B OT"),
+    ] {
+        list.add(name, Case::Token { file: text.to_vec() });
+    }
+    let far = |filler: u8, at: usize, text: &[u8]| [&vec![filler; at][..], text].concat();
+    list.add("token_ends_128", Case::Token { file: far(b' ', 122, b"N0BLOT") });
+    list.add("token_ends_129", Case::Token { file: far(b' ', 123, b"N0BLOT") });
+    list.add("token_cut_to_six", Case::Token { file: far(b' ', 122, b"N0BLOTX") });
+    list.add("separator_cut", Case::Token { file: far(b' ', 120, b"N0BLOT\r\r\n") });
+    for (name, len, at) in [("header_21", 21, 0), ("header_20", 20, 0), ("header_last", 200, 107), ("header_late", 200, 108)]
+    {
+        let mut bytes = vec![0; len];
+        bytes[at + 1] = 177;
+        bytes[at + 18..at + 20].fill(0xff);
+        list.add(name, Case::Mhb { file: bytes });
+    }
+    let eight = [0x80, 1, 0x7f, 2, 0xff, 0xfe, 0, 3];
+    for (name, block, index, kind) in [
+        ("field_i16", 0, 1, FieldKind::I16),
+        ("field_u16", 0, 1, FieldKind::U16),
+        ("field_i32", 0, 3, FieldKind::I32),
+        ("field_i32_out", 0, 4, FieldKind::I32),
+        ("field_pair", 0, 1, FieldKind::Pair),
+        ("field_pair_out", 1, 1, FieldKind::Pair),
+        ("field_far", 0xffff_ffff, 65_535, FieldKind::U16),
+    ] {
+        list.add(name, Case::Field { file: eight.to_vec(), block, index, kind });
+    }
+    list.add("pdb", Case::Pdb { file: class(), block: 27 });
+    list.add("pdb_cut", Case::Pdb { file: class(), block: 28 });
+    list.add("lin", Case::Lin { file: halfword(-320, 5, 65_535), block: 27 });
+    list.add("flt", Case::Flt { file: float(16.0, 128.0), block: 27 });
+    list.add("prc", Case::Prc { file: precip(10.0, 1.0, [255, 1, 2]), block: 27, factor: 0.254 });
+    list.add("prc_no_ceiling", Case::Prc { file: precip(10.0, 1.0, [255, 1, 9]), block: 27, factor: 0.254 });
+    list.add("thr", Case::Thr { file: legacy(), block: 27 });
+    list.add("thr_cut", Case::Thr { file: legacy(), block: 28 });
+    list.add("leg", Case::Leg { thresholds: std::array::from_fn(|i| 17 * i as u8), post_scale: 0.514444 });
+    for (name, bytes) in [
+        ("trail_nothing", &b""[..]),
+        ("trail_zeros", b"\0\0\0"),
+        ("trail_etx", b"\x03\0"),
+        ("trail_end", b"\r\r\n\x03\0\0"),
+        ("trail_lead", b"\0\x03"),
+        ("trail_two", b"\x03\x03"),
+        ("trail_long", b"\r\r\n\x03\r\r\n\x03\0"),
+    ] {
+        list.add(name, Case::Trail { bytes: bytes.to_vec() });
+    }
+    for code in [19, 94, 177, 0, 18, 171, -1, 32_767] {
+        list.add(&format!("known_{code}"), Case::Known { code });
+    }
+    list.add("codes", Case::Codes);
+    for (name, ops, payload) in [
+        ("xdr_none", "", vec![]),
+        ("xdr_numbers", "iuf", words(&[u32::MAX, u32::MAX, 0x7fa0_0001])),
+        ("xdr_cut", "iu", [words(&[3]), vec![1, 2, 3]].concat()),
+        ("xdr_string", "su", [words(&[5]), b"a\0b\0\0xyz".to_vec(), words(&[7])].concat()),
+        ("xdr_strings", "ss", [words(&[0, 4]), b"abcd".to_vec()].concat()),
+        ("xdr_body_cut", "s", [words(&[5]), b"abcd".to_vec()].concat()),
+        ("xdr_padding_cut", "s", [words(&[1]), b"ab".to_vec()].concat()),
+        ("xdr_string_4096", "s", words(&[4096])),
+        ("xdr_array", "ai", words(&[2, u32::MAX, 7, 9])),
+        ("xdr_array_cut", "a", words(&[2, 1])),
+        ("xdr_array_100000", "a", words(&[100_000])),
+        ("xdr_array_100001", "a", words(&[100_001])),
+        ("xdr_list", "li", words(&[2, 9, 0, 0, 8, 0, 0, 4])),
+        ("xdr_list_cut", "l", words(&[2, 9, 0, 0])),
+        ("xdr_list_negative", "l", words(&[u32::MAX, 7])),
+        ("xdr_list_no_pointer", "l", words(&[0])),
+    ] {
+        list.add(name, Case::Xdr { ops: ops.into(), payload });
+    }
+}
+
+/// The edges, and cases made from a seed until each refusal and each packet under each scheme has a few.
+pub fn list() -> Vec<(String, Case)> {
+    let mut list = edges();
+    let mut seen: HashMap<String, usize> = HashMap::new();
+    for number in 0..200_000 {
+        let rng = &mut Rng::new(20_260, number);
+        let case = match number % 8 {
+            0 => cases::symbology(rng),
+            1 => cases::xdr(rng),
+            2 => cases::block(rng),
+            3 => cases::accepted(rng),
+            _ => cases::sweep(rng),
+        };
+        let line = case.line("");
+        let answer = radish::answer(&case);
+        let (group, most) = match (answer.refusal(), &case) {
+            (Some(r), Case::Sweep { .. }) => (format!("r{}", r.number), 3),
+            (Some(r), _) => (format!("{}_r{}", case.kind(), r.number), 1),
+            (None, Case::Sweep { scheme, body, .. }) => {
+                let packet = Packet::ALL.map(|p| p.name())[[16, 0x1f, 28].iter().position(|c| *c == body[17]).unwrap()];
+                (format!("{packet}_{}", Scheme::NAMES[scheme.index()]).to_lowercase(), 3)
+            }
+            (None, _) => (case.kind().into(), 3),
+        };
+        let count = seen.entry(group.clone()).or_default();
+        if *count < most && line.len() < 900 && answer.to_string().len() < 900 {
+            *count += 1;
+            list.push((format!("{group}_{count}"), case));
+        }
+    }
+    list
+}
+
+/// What the list lacks, of the refusals 1 to 36 and the packets under the schemes.
+pub fn missing(list: &[(String, Case)]) -> Vec<String> {
+    let mut counts = Counts::default();
+    for (_, case) in list {
+        counts.count(case, &radish::answer(case));
+    }
+    counts.missing()
+}
