@@ -1,0 +1,14 @@
+use mathlib.Core.Path.{sym}
+use Prim.Native.Nat.{ℕ}
+use lib.ListN.{length-replicate}
+use Rattle.show.proofs.buffers.codes.Statement.{statement}
+use Rattle.show.proofs.buffers.codes.Tie as tie
+use Rattle.show.proofs.buffers.codes.Reads as reads
+use Rattle.show.proofs.buffers.codes.Lts as lts
+
+-- src/buffers.rt:24:1
+returns : tie.Need-returns
+returns c = sym (length-replicate {0} {A = ℕ} 1324800 0)
+
+pub codes-spec : {M : Type 1} → statement M
+codes-spec = tie.close (tie.spec returns)
