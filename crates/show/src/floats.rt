@@ -1,7 +1,7 @@
-// Floats in decimal. The rule: the nearest number of three decimals (six for the figures of a scale, below 2^23), the one further
-// from 0 where two are as near, worked out of the float's whole digits and power of two, so that nothing else rounds. The sign is
-// the float's own, also where all digits are 0. From 2^53 on a float is written exactly, as a whole number times a power of two.
-// Infinities are inf and -inf, a NaN is nan.
+// Floats in decimal. The rule: the nearest number of three decimals, the one further from 0 where two are as near, worked out of the
+// float's whole digits and power of two, so that nothing else rounds. The sign is the float's own, also where all digits are 0. The
+// figures of a scale, of gates and of refusals have six decimals below 2^23. From 2^52 on, and where six decimals would all be 0, a
+// float is written exactly, as a whole number times a power of two. Infinities are inf and -inf, a NaN is nan.
 ghost use mathlib.Core.Path.{_≡_};
 ghost use Prim.Native.Nat.{_<_, _≤_, _^_};
 ghost use Rattle.show.specs.Rounded.{rounded};
@@ -61,6 +61,25 @@ fn millionths32(rest: u64) -> u64
         return nearest(fraction * 1000000, 149);
     }
     nearest((fraction + 0x80_0000) * 1000000, 150 - exponent)
+}
+
+// An f32 below 2^23, from its bits without the sign, exactly: digits x 2^-power.
+fn print_small(negative: bool, rest: u64)
+    requires { ⌜ rest < 1258291200 ⌝ }
+{
+    let exponent = rest / 0x80_0000;
+    let fraction = rest % 0x80_0000;
+    if negative {
+        crate::text::say(b"-");
+    }
+    if exponent == 0 {
+        crate::text::whole(fraction);
+        crate::text::say(b" x 2^-149");
+        return;
+    }
+    crate::text::whole(fraction + 0x80_0000);
+    crate::text::say(b" x 2^-");
+    crate::text::whole(150 - exponent);
 }
 
 // Spaces up to the width, the sign, and the digits around the point: a unit is 1,000 or 1,000,000 parts of a whole.
@@ -136,7 +155,14 @@ pub fn fine(x: f32, width: usize) {
     let bits = f32::to_bits(x);
     let rest = bits % 0x8000_0000;
     if rest < 1258291200 {
-        let n = millionths32(wide(rest));
+        let digits = wide(rest);
+        let n = millionths32(digits);
+        if n == 0 {
+            if digits != 0 {
+                print_small(0x8000_0000 <= bits, digits);
+                return;
+            }
+        }
         print_units(0x8000_0000 <= bits, n, 1000000, width);
         return;
     }

@@ -185,6 +185,14 @@ fn print_radials(radials: usize, bins: usize, azimuths: &[f64], codes: &[u16], p
     }
 }
 
+// Whether a sweep has more cells than there is room for.
+fn is_over(radials: usize, bins: usize, room: usize) -> bool {
+    if bins == 0 {
+        return false;
+    }
+    room / bins < radials
+}
+
 fn print_extent(radials: usize, bins: usize) {
     crate::text::say(b"\nthe first ");
     crate::text::size(least(radials, 4));
@@ -206,5 +214,10 @@ pub fn print(s: Sweep, file: &[u8], azimuths: &[f64], codes: &[u16], physical: &
     let figures = s.figures;
     print_figures(figures);
     print_extent(figures.n_radials, figures.n_bins);
+    if is_over(figures.n_radials, figures.n_bins, physical.len()) {
+        crate::text::say(b"values are worked out for the first ");
+        crate::text::size(physical.len());
+        crate::text::say(b" cells alone\n");
+    }
     print_radials(figures.n_radials, figures.n_bins, azimuths, codes, physical);
 }

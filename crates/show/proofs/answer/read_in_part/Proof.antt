@@ -4,130 +4,94 @@ use lib.Seq.{length-take-le}
 use borrow.Author.Needs.{needs}
 use Rattle.show.proofs.answer.read_in_part.Statement.{statement}
 use Rattle.show.proofs.answer.read_in_part.Tie as tie
-use Rattle.show.proofs.answer.read_in_part.Reads as reads
-use Rattle.show.proofs.answer.read_in_part.Lts as lts
-use Rattle.scale.proofs.physical.declared_scale.Reads as declared-scale-reads
-use Rattle.scale.proofs.physical.fill_physical.Reads as fill-physical-reads
-use Rattle.sweep.proofs.plan.read_head.Reads as read-head-reads
-use Rattle.symbology.proofs.symbology.decode_symbology.Reads as decode-symbology-reads
 
--- src/answer.rt:23:22
 read-head-requires : tie.Need-read-head-requires
 read-head-requires c κs = search needs
 
--- src/answer.rt:24:25
 enum-known-h : tie.Need-enum-known-h
 enum-known-h c = search needs
 
--- src/answer.rt:25:27
 enum-known-e : tie.Need-enum-known-e
 enum-known-e c = search needs
 
--- src/answer.rt:25:33
 returns : tie.Need-returns
 returns c = search needs
 
--- src/answer.rt:28:26
 declared-scale-requires : tie.Need-declared-scale-requires
 declared-scale-requires c κs = search needs
 
--- src/answer.rt:29:34
 enum-known-d : tie.Need-enum-known-d
 enum-known-d c = search needs
 
--- src/answer.rt:30:36
 enum-known-e-2 : tie.Need-enum-known-e-2
 enum-known-e-2 c = search needs
 
--- src/answer.rt:30:42
 returns-2 : tie.Need-returns-2
 returns-2 c = search needs
 
--- src/answer.rt:32:25
 decode-symbology-requires : tie.Need-decode-symbology-requires
 decode-symbology-requires c κs = search needs
 
--- src/answer.rt:33:28
 enum-known-f : tie.Need-enum-known-f
 enum-known-f c = search needs
 
--- src/answer.rt:34:30
 enum-known-e-3 : tie.Need-enum-known-e-3
 enum-known-e-3 c = search needs
 
--- src/answer.rt:34:36
 same-length : tie.Need-same-length
 same-length c = search needs
 
--- src/answer.rt:34:36
 same-length-2 : tie.Need-same-length-2
 same-length-2 c = search needs
 
--- src/answer.rt:34:36
 returns-3 : tie.Need-returns-3
 returns-3 c = search needs
 
--- src/answer.rt:40:9
 same-length-3 : tie.Need-same-length-3
 same-length-3 c = search needs
 
--- src/answer.rt:40:9
 same-length-4 : tie.Need-same-length-4
 same-length-4 c = search needs
 
--- src/answer.rt:40:9
 returns-4 : tie.Need-returns-4
 returns-4 c = search needs
 
--- src/answer.rt:44:63
 slice-reshare-prefix-fill-physical : tie.Need-slice-reshare-prefix-fill-physical
 slice-reshare-prefix-fill-physical c = search needs
 
--- src/answer.rt:44:63
 slice-aggregate-fill-physical : tie.Need-slice-aggregate-fill-physical
 slice-aggregate-fill-physical c = sym (length-take-le _ _ (omega arith))
 
--- src/answer.rt:44:11
 fill-physical-requires : tie.Need-fill-physical-requires
 fill-physical-requires c κs = search needs
 
--- src/answer.rt:45:25
 enum-known-e-4 : tie.Need-enum-known-e-4
 enum-known-e-4 c = search needs
 
--- src/answer.rt:46:47
 enum-told : tie.Need-enum-told
 enum-told c = search needs
 
--- src/answer.rt:14:1
 same-length-5 : tie.Need-same-length-5
 same-length-5 c = search needs
 
--- src/answer.rt:14:1
 same-length-6 : tie.Need-same-length-6
 same-length-6 c = search needs
 
--- src/answer.rt:14:1
 same-length-7 : tie.Need-same-length-7
 same-length-7 c = search needs
 
--- src/answer.rt:14:1
 returns-5 : tie.Need-returns-5
 returns-5 c = search needs
 
--- src/answer.rt:14:1
 same-length-8 : tie.Need-same-length-8
 same-length-8 c = search needs
 
--- src/answer.rt:14:1
 same-length-9 : tie.Need-same-length-9
 same-length-9 c = search needs
 
--- src/answer.rt:14:1
 same-length-10 : tie.Need-same-length-10
 same-length-10 c = search needs
 
--- src/answer.rt:14:1
 returns-6 : tie.Need-returns-6
 returns-6 c = search needs
 

@@ -3,10 +3,7 @@ use Prim.Native.Nat.{ℕ}
 use lib.ListN.{length-replicate}
 use Rattle.show.proofs.buffers.body_bytes.Statement.{statement}
 use Rattle.show.proofs.buffers.body_bytes.Tie as tie
-use Rattle.show.proofs.buffers.body_bytes.Reads as reads
-use Rattle.show.proofs.buffers.body_bytes.Lts as lts
 
--- src/buffers.rt:12:1
 returns : tie.Need-returns
 returns c = sym (length-replicate {0} {A = ℕ} 1400000 0)
 

@@ -3,10 +3,7 @@ use Prim.Native.Nat.{ℕ}
 use lib.ListN.{length-replicate}
 use Rattle.show.proofs.buffers.codes.Statement.{statement}
 use Rattle.show.proofs.buffers.codes.Tie as tie
-use Rattle.show.proofs.buffers.codes.Reads as reads
-use Rattle.show.proofs.buffers.codes.Lts as lts
 
--- src/buffers.rt:24:1
 returns : tie.Need-returns
 returns c = sym (length-replicate {0} {A = ℕ} 1324800 0)
 

@@ -3,10 +3,7 @@ use lib.Ieee.{Float, ofBits, binary32}
 use lib.ListN.{length-replicate}
 use Rattle.show.proofs.buffers.physical.Statement.{statement}
 use Rattle.show.proofs.buffers.physical.Tie as tie
-use Rattle.show.proofs.buffers.physical.Reads as reads
-use Rattle.show.proofs.buffers.physical.Lts as lts
 
--- src/buffers.rt:30:1
 returns : tie.Need-returns
 returns c = sym (length-replicate {0} {A = Float} 720000 (ofBits binary32 0))
 

@@ -4,10 +4,6 @@ use Prim.Native.Nat.{_≤_, _-_}
 use lib.ListN.{length}
 use Rattle.show.proofs.files.read_all.Statement.{statement}
 use Rattle.show.proofs.files.read_all.Tie as tie
-use Rattle.show.proofs.files.read_all.Reads as reads
-use Rattle.show.proofs.files.read_all.Lts as lts
-use Rattle.show.proofs.files.read_some.Reads as read-some-reads
-use Rattle.show.proofs.files.rest.Reads as rest-reads
 
 abbrev Inv-loop : tie.InvT-loop
 Inv-loop fd buf₀ at₀ buf at = (at ≤ length buf) × (length buf ≡ length buf₀)
@@ -15,87 +11,66 @@ Inv-loop fd buf₀ at₀ buf at = (at ≤ length buf) × (length buf ≡ length 
 abbrev μ-loop : tie.MeasureT-loop
 μ-loop fd buf₀ at₀ buf at = length buf - at
 
--- src/files.rt:46:5
 loop-holds : tie.Need-loop-holds Inv-loop μ-loop
 loop-holds c = search needs
 
--- src/files.rt:47:39
 sub-read-some : tie.Need-sub-read-some Inv-loop μ-loop
 sub-read-some c = search needs
 
--- src/files.rt:47:39
 part-read-some-start : tie.Need-part-read-some-start Inv-loop μ-loop
 part-read-some-start c = search needs
 
--- src/files.rt:47:39
 part-read-some-end : tie.Need-part-read-some-end Inv-loop μ-loop
 part-read-some-end c = search needs
 
--- src/files.rt:47:25
 read-some-requires : tie.Need-read-some-requires Inv-loop μ-loop
 read-some-requires c κs = search needs
 
--- src/files.rt:48:27
 enum-known-n : tie.Need-enum-known-n Inv-loop μ-loop
 enum-known-n c = search needs
 
--- src/files.rt:49:26
 enum-known-n-2 : tie.Need-enum-known-n-2 Inv-loop μ-loop
 enum-known-n-2 c = search needs
 
--- src/files.rt:50:31
 enum-told : tie.Need-enum-told Inv-loop μ-loop
 enum-told c = search needs
 
--- src/files.rt:50:31
 same-length : tie.Need-same-length Inv-loop μ-loop
 same-length c = search needs
 
--- src/files.rt:50:31
 returns : tie.Need-returns Inv-loop μ-loop
 returns c = search needs
 
--- src/files.rt:53:13
 same-length-2 : tie.Need-same-length-2 Inv-loop μ-loop
 same-length-2 c = search needs
 
--- src/files.rt:53:13
 returns-2 : tie.Need-returns-2 Inv-loop μ-loop
 returns-2 c = search needs
 
--- src/files.rt:55:12
 sub-if2 : tie.Need-sub-if2 Inv-loop μ-loop
 sub-if2 c = search needs
 
--- src/files.rt:56:13
 same-length-3 : tie.Need-same-length-3 Inv-loop μ-loop
 same-length-3 c = search needs
 
--- src/files.rt:56:13
 returns-3 : tie.Need-returns-3 Inv-loop μ-loop
 returns-3 c = search needs
 
--- src/files.rt:58:9
 add-at : tie.Need-add-at Inv-loop μ-loop
 add-at c = search needs
 
--- src/files.rt:46:5
 loop-less : tie.Need-loop-less Inv-loop μ-loop
 loop-less c = search needs
 
--- src/files.rt:46:5
 loop-again : tie.Need-loop-again Inv-loop μ-loop
 loop-again c = search needs
 
--- src/files.rt:60:5
 rest-requires : tie.Need-rest-requires Inv-loop μ-loop
 rest-requires c κs = search needs
 
--- src/files.rt:44:1
 same-length-4 : tie.Need-same-length-4 Inv-loop μ-loop
 same-length-4 c = search needs
 
--- src/files.rt:44:1
 returns-4 : tie.Need-returns-4 Inv-loop μ-loop
 returns-4 c = search needs
 

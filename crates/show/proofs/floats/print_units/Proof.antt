@@ -3,94 +3,67 @@ use native.Mathlib.Nat.{mod-lt}
 use borrow.Author.Needs.{needs}
 use Rattle.show.proofs.floats.print_units.Statement.{statement}
 use Rattle.show.proofs.floats.print_units.Tie as tie
-use Rattle.show.proofs.floats.print_units.Reads as reads
-use Rattle.show.proofs.floats.print_units.Lts as lts
-use Rattle.io.proofs.decimal.Reads as decimal-reads
-use Rattle.show.proofs.text.left.Reads as left-reads
-use Rattle.show.proofs.text.pad.Reads as pad-reads
-use Rattle.show.proofs.text.say.Reads as say-reads
 
--- src/floats.rt:71:25
 div-decimal : tie.Need-div-decimal
 div-decimal c = search needs
 
--- src/floats.rt:71:9
 decimal-requires : tie.Need-decimal-requires
 decimal-requires c κs = search needs
 
--- src/floats.rt:74:32
 rem-decimal : tie.Need-rem-decimal
 rem-decimal c = search needs
 
--- src/floats.rt:74:25
 add-decimal : tie.Need-add-decimal
 add-decimal c = record { fits = omega (arith, mod-lt (c .before .before .args .n) (c .before .before .pre .0), c .before .before .pre) }
 
--- src/floats.rt:74:9
 decimal-requires-2 : tie.Need-decimal-requires-2
 decimal-requires-2 c κs = search needs
 
--- src/floats.rt:75:9
 left-requires : tie.Need-left-requires
 left-requires c κs = search needs
 
--- src/floats.rt:77:26
 left-requires-2 : tie.Need-left-requires-2
 left-requires-2 c κs = search needs
 
--- src/floats.rt:77:9
 pad-requires : tie.Need-pad-requires
 pad-requires c κs = search needs
 
--- src/floats.rt:78:26
 slice-aggregate-say : tie.Need-slice-aggregate-say
 slice-aggregate-say c = search needs
 
--- src/floats.rt:78:9
 say-requires : tie.Need-say-requires
 say-requires c κs = search needs
 
--- src/floats.rt:80:9
 pad-requires-2 : tie.Need-pad-requires-2
 pad-requires-2 c κs = search needs
 
--- src/floats.rt:82:22
 array-share-prefix-whole : tie.Need-array-share-prefix-whole
 array-share-prefix-whole c = search needs
 
--- src/floats.rt:82:22
 slice-aggregate-say-2 : tie.Need-slice-aggregate-say-2
 slice-aggregate-say-2 c = search needs
 
--- src/floats.rt:82:5
 say-requires-2 : tie.Need-say-requires-2
 say-requires-2 c κs = search needs
 
--- src/floats.rt:83:22
 slice-aggregate-say-3 : tie.Need-slice-aggregate-say-3
 slice-aggregate-say-3 c = search needs
 
--- src/floats.rt:83:5
 say-requires-3 : tie.Need-say-requires-3
 say-requires-3 c κs = search needs
 
--- src/floats.rt:84:22
 sub-say : tie.Need-sub-say
 sub-say c = search needs
 
--- src/floats.rt:84:22
 part-say-start : tie.Need-part-say-start
 part-say-start c = search needs
 
--- src/floats.rt:84:22
 part-say-end : tie.Need-part-say-end
 part-say-end c = search needs
 
--- src/floats.rt:84:5
 say-requires-4 : tie.Need-say-requires-4
 say-requires-4 c κs = search needs
 
--- src/floats.rt:67:1
 returns : tie.Need-returns
 returns c = search needs
 

@@ -3,10 +3,6 @@ use Prim.Native.Nat.{_≤_, _-_}
 use lib.ListN.{length}
 use Rattle.show.proofs.picture.print_radials.Statement.{statement}
 use Rattle.show.proofs.picture.print_radials.Tie as tie
-use Rattle.show.proofs.picture.print_radials.Reads as reads
-use Rattle.show.proofs.picture.print_radials.Lts as lts
-use Rattle.show.proofs.picture.least.Reads as least-reads
-use Rattle.show.proofs.picture.print_radial.Reads as print-radial-reads
 
 abbrev Inv-loop : tie.InvT-loop
 Inv-loop radials bins azimuths codes physical n shown at₀ radial₀ at radial =
@@ -15,59 +11,45 @@ Inv-loop radials bins azimuths codes physical n shown at₀ radial₀ at radial 
 abbrev μ-loop : tie.MeasureT-loop
 μ-loop radials bins azimuths codes physical n shown at₀ radial₀ at radial = shown - radial
 
--- src/picture.rt:184:9
 least-requires : tie.Need-least-requires Inv-loop μ-loop
 least-requires c κs = search needs
 
--- src/picture.rt:185:23
 least-requires-2 : tie.Need-least-requires-2 Inv-loop μ-loop
 least-requires-2 c κs = search needs
 
--- src/picture.rt:185:9
 least-requires-3 : tie.Need-least-requires-3 Inv-loop μ-loop
 least-requires-3 c κs = search needs
 
--- src/picture.rt:188:5
 loop-holds : tie.Need-loop-holds Inv-loop μ-loop
 loop-holds c = search needs
 
--- src/picture.rt:189:30
 mul-print-radial : tie.Need-mul-print-radial Inv-loop μ-loop
 mul-print-radial c = search needs
 
--- src/picture.rt:189:30
 shared-slice-read-print-radial : tie.Need-shared-slice-read-print-radial Inv-loop μ-loop
 shared-slice-read-print-radial c = search needs
 
--- src/picture.rt:189:9
 print-radial-requires : tie.Need-print-radial-requires Inv-loop μ-loop
 print-radial-requires c κs = search needs
 
--- src/picture.rt:190:12
 sub-if1 : tie.Need-sub-if1 Inv-loop μ-loop
 sub-if1 c = search needs
 
--- src/picture.rt:191:13
 returns : tie.Need-returns Inv-loop μ-loop
 returns c = search needs
 
--- src/picture.rt:193:9
 add-at : tie.Need-add-at Inv-loop μ-loop
 add-at c = search needs
 
--- src/picture.rt:194:9
 add-radial : tie.Need-add-radial Inv-loop μ-loop
 add-radial c = search needs
 
--- src/picture.rt:188:5
 loop-less : tie.Need-loop-less Inv-loop μ-loop
 loop-less c = search needs
 
--- src/picture.rt:188:5
 loop-again : tie.Need-loop-again Inv-loop μ-loop
 loop-again c = search needs
 
--- src/picture.rt:177:1
 returns-2 : tie.Need-returns-2 Inv-loop μ-loop
 returns-2 c = search needs
 

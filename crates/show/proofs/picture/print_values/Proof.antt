@@ -3,10 +3,6 @@ use Prim.Native.Nat.{_≤_, _-_}
 use lib.ListN.{length}
 use Rattle.show.proofs.picture.print_values.Statement.{statement}
 use Rattle.show.proofs.picture.print_values.Tie as tie
-use Rattle.show.proofs.picture.print_values.Reads as reads
-use Rattle.show.proofs.picture.print_values.Lts as lts
-use Rattle.show.proofs.floats.cell.Reads as cell-reads
-use Rattle.show.proofs.text.say.Reads as say-reads
 
 abbrev Inv-loop : tie.InvT-loop
 Inv-loop physical i₀ t4 t5 i = i ≤ length physical
@@ -14,59 +10,45 @@ Inv-loop physical i₀ t4 t5 i = i ≤ length physical
 abbrev μ-loop : tie.MeasureT-loop
 μ-loop physical i₀ t4 t5 i = length physical - i
 
--- src/picture.rt:139:22
 slice-aggregate-say : tie.Need-slice-aggregate-say Inv-loop μ-loop
 slice-aggregate-say c = search needs
 
--- src/picture.rt:139:5
 say-requires : tie.Need-say-requires Inv-loop μ-loop
 say-requires c κs = search needs
 
--- src/picture.rt:141:5
 loop-holds : tie.Need-loop-holds Inv-loop μ-loop
 loop-holds c = search needs
 
--- src/picture.rt:142:26
 slice-aggregate-say-2 : tie.Need-slice-aggregate-say-2 Inv-loop μ-loop
 slice-aggregate-say-2 c = search needs
 
--- src/picture.rt:142:9
 say-requires-2 : tie.Need-say-requires-2 Inv-loop μ-loop
 say-requires-2 c κs = search needs
 
--- src/picture.rt:143:29
 mul-cell : tie.Need-mul-cell Inv-loop μ-loop
 mul-cell c = search needs
 
--- src/picture.rt:143:29
 shared-slice-read-cell : tie.Need-shared-slice-read-cell Inv-loop μ-loop
 shared-slice-read-cell c = search needs
 
--- src/picture.rt:143:9
 cell-requires : tie.Need-cell-requires Inv-loop μ-loop
 cell-requires c κs = search needs
 
--- src/picture.rt:144:9
 add-i : tie.Need-add-i Inv-loop μ-loop
 add-i c = search needs
 
--- src/picture.rt:141:5
 loop-less : tie.Need-loop-less Inv-loop μ-loop
 loop-less c = search needs
 
--- src/picture.rt:141:5
 loop-again : tie.Need-loop-again Inv-loop μ-loop
 loop-again c = search needs
 
--- src/picture.rt:146:22
 slice-aggregate-say-3 : tie.Need-slice-aggregate-say-3 Inv-loop μ-loop
 slice-aggregate-say-3 c = search needs
 
--- src/picture.rt:146:5
 say-requires-3 : tie.Need-say-requires-3 Inv-loop μ-loop
 say-requires-3 c κs = search needs
 
--- src/picture.rt:138:1
 returns : tie.Need-returns Inv-loop μ-loop
 returns c = search needs
 

@@ -4,14 +4,10 @@ use Rattle.show.proofs.Signs.{wider}
 use borrow.Author.Needs.{needs}
 use Rattle.show.proofs.text.wide_signed.Statement.{statement}
 use Rattle.show.proofs.text.wide_signed.Tie as tie
-use Rattle.show.proofs.text.wide_signed.Reads as reads
-use Rattle.show.proofs.text.wide_signed.Lts as lts
 
--- src/text.rt:49:5
 cast-result : tie.Need-cast-result
 cast-result c = wider (toZ-ofZ {w = w16} {z = c .args .x} (c .fits .x)) (c .fits .x)
 
--- src/text.rt:48:1
 returns : tie.Need-returns
 returns c = search needs
 

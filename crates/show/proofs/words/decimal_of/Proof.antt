@@ -4,97 +4,70 @@ use lib.Seq.{length-take-le}
 use borrow.Author.Needs.{needs}
 use Rattle.show.proofs.words.decimal_of.Statement.{statement}
 use Rattle.show.proofs.words.decimal_of.Tie as tie
-use Rattle.show.proofs.words.decimal_of.Reads as reads
-use Rattle.show.proofs.words.decimal_of.Lts as lts
-use Rattle.show.proofs.words.number_from.Reads as number-from-reads
-use Rattle.show.proofs.words.point.Reads as point-reads
-use Rattle.show.proofs.words.quotient.Reads as quotient-reads
 
--- src/words.rt:110:9
 point-requires : tie.Need-point-requires
 point-requires c κs = search needs
 
--- src/words.rt:112:9
 returns : tie.Need-returns
 returns c = search needs
 
--- src/words.rt:114:38
 slice-aggregate-number-from : tie.Need-slice-aggregate-number-from
 slice-aggregate-number-from c = sym (length-take-le _ _ (omega arith))
 
--- src/words.rt:114:23
 number-from-requires : tie.Need-number-from-requires
 number-from-requires c κs = search needs
 
--- src/words.rt:115:23
 enum-known-n : tie.Need-enum-known-n
 enum-known-n c = search needs
 
--- src/words.rt:116:24
 enum-told : tie.Need-enum-told
 enum-told c = search needs
 
--- src/words.rt:116:24
 returns-2 : tie.Need-returns-2
 returns-2 c = search needs
 
--- src/words.rt:119:9
 quotient-requires : tie.Need-quotient-requires
 quotient-requires c κs = search needs
 
--- src/words.rt:119:9
 returns-3 : tie.Need-returns-3
 returns-3 c = search needs
 
--- src/words.rt:122:9
 returns-4 : tie.Need-returns-4
 returns-4 c = search needs
 
--- src/words.rt:124:17
 add-after : tie.Need-add-after
 add-after c = search needs
 
--- src/words.rt:125:13
 sub-k : tie.Need-sub-k
 sub-k c = search needs
 
--- src/words.rt:127:9
 returns-5 : tie.Need-returns-5
 returns-5 c = search needs
 
--- src/words.rt:129:30
 sub-number-from : tie.Need-sub-number-from
 sub-number-from c = search needs
 
--- src/words.rt:129:30
 part-number-from-start : tie.Need-part-number-from-start
 part-number-from-start c = search needs
 
--- src/words.rt:129:30
 part-number-from-end : tie.Need-part-number-from-end
 part-number-from-end c = search needs
 
--- src/words.rt:129:11
 number-from-requires-2 : tie.Need-number-from-requires-2
 number-from-requires-2 c κs = search needs
 
--- src/words.rt:130:23
 enum-known-n-2 : tie.Need-enum-known-n-2
 enum-known-n-2 c = search needs
 
--- src/words.rt:130:29
 quotient-requires-2 : tie.Need-quotient-requires-2
 quotient-requires-2 c κs = search needs
 
--- src/words.rt:131:24
 enum-told-2 : tie.Need-enum-told-2
 enum-told-2 c = search needs
 
--- src/words.rt:109:1
 returns-6 : tie.Need-returns-6
 returns-6 c = search needs
 
--- src/words.rt:109:1
 returns-7 : tie.Need-returns-7
 returns-7 c = search needs
 

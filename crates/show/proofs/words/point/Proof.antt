@@ -3,8 +3,6 @@ use Prim.Native.Nat.{_≤_, _-_}
 use lib.ListN.{length}
 use Rattle.show.proofs.words.point.Statement.{statement}
 use Rattle.show.proofs.words.point.Tie as tie
-use Rattle.show.proofs.words.point.Reads as reads
-use Rattle.show.proofs.words.point.Lts as lts
 
 abbrev Inv-loop : tie.InvT-loop
 Inv-loop text i₀ i = i ≤ length text
@@ -12,31 +10,24 @@ Inv-loop text i₀ i = i ≤ length text
 abbrev μ-loop : tie.MeasureT-loop
 μ-loop text i₀ i = length text - i
 
--- src/words.rt:66:5
 loop-holds : tie.Need-loop-holds Inv-loop μ-loop
 loop-holds c = search needs
 
--- src/words.rt:67:12
 shared-slice-read-if1 : tie.Need-shared-slice-read-if1 Inv-loop μ-loop
 shared-slice-read-if1 c = search needs
 
--- src/words.rt:68:13
 returns : tie.Need-returns Inv-loop μ-loop
 returns c = search needs
 
--- src/words.rt:70:9
 add-i : tie.Need-add-i Inv-loop μ-loop
 add-i c = search needs
 
--- src/words.rt:66:5
 loop-less : tie.Need-loop-less Inv-loop μ-loop
 loop-less c = search needs
 
--- src/words.rt:66:5
 loop-again : tie.Need-loop-again Inv-loop μ-loop
 loop-again c = search needs
 
--- src/words.rt:62:1
 returns-2 : tie.Need-returns-2 Inv-loop μ-loop
 returns-2 c = search needs
 

@@ -1,121 +1,88 @@
 use Prim.Native.Nat.{ℕ}
-use native.Mathlib.Omega.{arith}
 use mathlib.Core.Path.{sym}
 use lib.Seq.{length-take-le}
 use borrow.Author.Needs.{needs}
 use Rattle.show.proofs.words.scheme_of.Statement.{statement}
 use Rattle.show.proofs.words.scheme_of.Tie as tie
-use Rattle.show.proofs.words.scheme_of.Reads as reads
-use Rattle.show.proofs.words.scheme_of.Lts as lts
-use Rattle.bytes.proofs.text.same.Reads as same-reads
-use Rattle.show.proofs.words.legacy.Reads as legacy-reads
-use Rattle.show.proofs.words.precipitation.Reads as precipitation-reads
 
--- src/words.rt:151:32
 slice-aggregate-same : tie.Need-slice-aggregate-same
 slice-aggregate-same c = search needs
 
--- src/words.rt:151:8
 same-requires : tie.Need-same-requires
 same-requires c κs = search needs
 
--- src/words.rt:152:9
 returns : tie.Need-returns
 returns c = search needs
 
--- src/words.rt:154:32
 slice-aggregate-same-2 : tie.Need-slice-aggregate-same-2
 slice-aggregate-same-2 c = search needs
 
--- src/words.rt:154:8
 same-requires-2 : tie.Need-same-requires-2
 same-requires-2 c κs = search needs
 
--- src/words.rt:155:9
 returns-2 : tie.Need-returns-2
 returns-2 c = search needs
 
--- src/words.rt:157:32
 slice-aggregate-same-3 : tie.Need-slice-aggregate-same-3
 slice-aggregate-same-3 c = search needs
 
--- src/words.rt:157:8
 same-requires-3 : tie.Need-same-requires-3
 same-requires-3 c κs = search needs
 
--- src/words.rt:158:9
 returns-3 : tie.Need-returns-3
 returns-3 c = search needs
 
--- src/words.rt:161:30
 slice-aggregate-same-4 : tie.Need-slice-aggregate-same-4
 slice-aggregate-same-4 c = sym (length-take-le {A = ℕ} 14 (c .before .before .before .before .before .before .before .before .before .before .before .before .args .word .now) (c .before .if4 .taken))
 
--- src/words.rt:161:43
 slice-aggregate-same-5 : tie.Need-slice-aggregate-same-5
 slice-aggregate-same-5 c = search needs
 
--- src/words.rt:161:12
 same-requires-4 : tie.Need-same-requires-4
 same-requires-4 c κs = search needs
 
--- src/words.rt:162:34
 sub-precipitation : tie.Need-sub-precipitation
 sub-precipitation c = search needs
 
--- src/words.rt:162:34
 part-precipitation-start : tie.Need-part-precipitation-start
 part-precipitation-start c = search needs
 
--- src/words.rt:162:34
 part-precipitation-end : tie.Need-part-precipitation-end
 part-precipitation-end c = search needs
 
--- src/words.rt:162:13
 precipitation-requires : tie.Need-precipitation-requires
 precipitation-requires c κs = search needs
 
--- src/words.rt:162:13
 returns-4 : tie.Need-returns-4
 returns-4 c = search needs
 
--- src/words.rt:166:30
 slice-aggregate-same-6 : tie.Need-slice-aggregate-same-6
 slice-aggregate-same-6 c = sym (length-take-le {A = ℕ} 7 (c .before .before .before .before .before .before .before .before .before .before .before .before .before .args .word .now) (c .before .if6 .taken))
 
--- src/words.rt:166:42
 slice-aggregate-same-7 : tie.Need-slice-aggregate-same-7
 slice-aggregate-same-7 c = search needs
 
--- src/words.rt:166:12
 same-requires-5 : tie.Need-same-requires-5
 same-requires-5 c κs = search needs
 
--- src/words.rt:167:27
 sub-legacy : tie.Need-sub-legacy
 sub-legacy c = search needs
 
--- src/words.rt:167:27
 part-legacy-start : tie.Need-part-legacy-start
 part-legacy-start c = search needs
 
--- src/words.rt:167:27
 part-legacy-end : tie.Need-part-legacy-end
 part-legacy-end c = search needs
 
--- src/words.rt:167:13
 legacy-requires : tie.Need-legacy-requires
 legacy-requires c κs = search needs
 
--- src/words.rt:167:13
 returns-5 : tie.Need-returns-5
 returns-5 c = search needs
 
--- src/words.rt:150:1
 returns-6 : tie.Need-returns-6
 returns-6 c = search needs
 
--- src/words.rt:150:1
 returns-7 : tie.Need-returns-7
 returns-7 c = search needs
 
