@@ -4,10 +4,10 @@
 // float is written exactly, as a whole number times a power of two. Infinities are inf and -inf, a NaN is nan.
 ghost use mathlib.Core.Path.{_≡_};
 ghost use Prim.Native.Nat.{_<_, _≤_, _^_};
-ghost use Rattle.show.specs.Rounded.{rounded};
+ghost use Rattle.show.specs.Rounded.{rounded, millionths, thousandths};
 
 // A float's distance from 0, in whole numbers.
-enum Size {
+pub enum Size {
     // So many thousandths or millionths, rounded.
     Units(u64),
     // digits x 2^power
@@ -32,6 +32,7 @@ fn nearest(n: u64, shift: u64) -> u64
 // An f64's bits without the sign, in thousandths: digits x 2^(exponent - 1075).
 fn size64(rest: u64) -> Size
     requires { ⌜ rest < 2 ^ 63 ⌝ }
+    ensures { λ r. ⌜ r ≡ thousandths rest ⌝ }
 {
     let exponent = rest / 0x10_0000_0000_0000;
     let fraction = rest % 0x10_0000_0000_0000;
@@ -54,6 +55,7 @@ fn size64(rest: u64) -> Size
 // An f32's bits without the sign, below 2^23, in millionths: digits x 2^(exponent - 150).
 fn millionths32(rest: u64) -> u64
     requires { ⌜ rest < 1258291200 ⌝ }
+    ensures { λ r. ⌜ r ≡ millionths rest ⌝ }
 {
     let exponent = rest / 0x80_0000;
     let fraction = rest % 0x80_0000;

@@ -62,14 +62,12 @@ fn main() {
     let scheme = match words::scheme_argument(3) {
         SchemeWord::Value(s) => s,
         SchemeWord::Unknown => {
-            text::warn(b"show: SCHEME is none that there is\n");
+            text::warn(b"show: SCHEME is not one of those below\n");
             print_usage();
             return;
         }
         SchemeWord::BadNumber => {
-            text::warn(
-                b"show: the number in SCHEME is no decimal number, or has too many digits\n",
-            );
+            text::warn(b"show: the number in SCHEME is not one as described below\n");
             print_usage();
             return;
         }
@@ -77,7 +75,7 @@ fn main() {
     let clock = match words::clock_argument(4, words) {
         ClockWord::Value(t) => t,
         ClockWord::Bad => {
-            text::warn(b"show: CLOCK is no whole number of at most 15 digits\n");
+            text::warn(b"show: CLOCK is not a whole number of at most 15 digits\n");
             print_usage();
             return;
         }
