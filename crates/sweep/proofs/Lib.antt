@@ -1,9 +1,11 @@
+pub mod Order
 pub mod RowLaws
 pub mod Centres
 pub mod Parts
 pub mod Lowest
 pub mod Demand3
 pub mod TwoRuns
+pub mod CodeRuns
 pub mod InWords
 pub mod Table
 pub mod Timed

@@ -1,39 +1,21 @@
 -- Document 01's table 'Beams on both edges', lines P1 to P13, over the definitions: what each line's body, radial, level, flag or time
 -- gives. (The two grid sizes go through a test program.)
-use Prim.Native.Nat.{ℕ, _/_, _%_, _^_, _≤_}
-use mathlib.Core.List.{List, [], _∷_, _++_}
+use Prim.Native.Nat.{ℕ, _^_, _≤_}
+use mathlib.Core.List.{[], _∷_, _++_}
 use mathlib.Core.Path.{_≡_}
 use lib.ListN.{replicate}
 use lib.IntN.{pos}
-use lib.Ieee.{Float, neg}
+use lib.Ieee.{neg}
 use Rattle.bytes.specs.Float.{f32, f64}
 use Rattle.bytes.specs.Refusal.{kind, nat, float, item}
-use Rattle.bytes.specs.Result.{Result, accepted, refused}
+use Rattle.bytes.specs.Result.{accepted, refused}
 use Rattle.bytes.specs.declared.error.XdrItem.the-variants as Item
 use Rattle.head.specs.Header.{scanTime}
 use Rattle.scale.specs.Legacy.{legacyLevel}
 use Rattle.scale.specs.Scaling.{floorOf}
-use Rattle.symbology.specs.Answers.{Picture, pictureOf}
-use Rattle.symbology.specs.declared.figures.Packet.{Packet}
+use Rattle.symbology.specs.Answers.{pictureOf}
+use Rattle.symbology.specs.Table.{start, oneRadial, onePicture}
 use Rattle.symbology.specs.declared.figures.Packet.the-variants.{Packet16, PacketAf1f}
-use Rattle.symbology.specs.declared.figures.Geometry.the-variants.{RangeScale}
-
--- a halfword
-abbrev pub two : ℕ → List ℕ
-two n = n / 256 ∷ n % 256 ∷ []
-
--- the first 18 bytes, with the packet code
-abbrev pub start : ℕ → List ℕ
-start code = two 0xFFFF ++ two 1 ++ replicate 12 0 ++ two code
-
--- a body of packet 16 or AF1F with one radial of so many bins, range scale 1: the radial's count, start and width, and its data
-abbrev pub oneRadial : ℕ → ℕ → ℕ × ℕ × ℕ → List ℕ → List ℕ
-oneRadial code bins beam bytes = start code ++ two 0 ++ two bins ++ replicate 4 0 ++ two 1 ++ two 1 ++ two (beam .0) ++ two (beam .1) ++ two (beam .2) ++ bytes
-
--- its picture
-abbrev pub onePicture : Packet → ℕ → Float → List ℕ → Result Picture
-onePicture packet bins centre row =
-    accepted (record { figures = record { packet = packet; «n_radials» = 1; «n_bins» = bins; geometry = RangeScale 1 }; azimuths = centre ∷ []; codes = row })
 
 pub record Table : Type 0 where
   -- P1 17 bytes: 12

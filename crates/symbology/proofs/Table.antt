@@ -1,32 +1,19 @@
 -- The table's bodies, computed from the definitions. Assumes nothing.
 use mathlib.Core.Path.{refl}
-use lib.Ieee.{add, div, mul, rem, ofInt, ofBits}
+use lib.Ieee.{add, div, rem, ofInt, ofBits}
 use Rattle.bytes.specs.Bytes.{u16At, u32At, signed}
 use Rattle.bytes.specs.Float.{f32, f64}
 use Rattle.bytes.specs.Reading.{run, more, after-row, pieces, _>>=_, _>>_, remaining, u16, u32, unread, radial-data, refuse-if}
 use Rattle.xdr.specs.Xdr.{int, float, string, stringBody, uint, word, short, pass, arrayCount, pointer, counted, listHead, elements, further, parameter}
 use Rattle.symbology.specs.Answers.{joined, pictureOf}
-use Rattle.symbology.specs.Centre.{centre, centre28, widthDegrees}
-use Rattle.symbology.specs.Rows.{rowOf, row16, rowAF1F, reach, cells, words, push, levels, row28}
+use Rattle.symbology.specs.Centre.{centre, centre28}
+use Rattle.symbology.specs.Rows.{rowOf, rowAF1F, reach, cells, words, push, levels, row28}
 use Rattle.symbology.specs.Symbology.{symbology, packetOf, radialPacket, packetHeader, firstBin, isEmpty, overBody, radialWalk, radial, frame, covered, countWrong, genericPacket, bodyShort, payload, productBlock, component, radialComponent, xdrRadials, xdrRadial, xdrWalk, xdrFrame, only}
-use Rattle.symbology.specs.Table.{Beams, Generic}
+use Rattle.symbology.specs.Table.{Runs, Generic}
 
-pub beams : Beams
-unfolding pictureOf joined run more after-row _>>=_ _>>_ remaining u16 u32 unread radial-data refuse-if u16At u32At signed symbology packetOf radialPacket packetHeader firstBin isEmpty overBody radialWalk radial frame covered countWrong rowOf row16 rowAF1F reach cells centre widthDegrees genericPacket bodyShort payload productBlock string uint word short f32 f64 add div mul ofInt
-beams = record {
-  p1 = refl;
-  p2 = refl;
-  p3 = refl;
-  p4 = refl;
-  p5 = refl;
-  p6-passes = refl;
-  p6-is-20 = refl;
-  p7 = refl;
-  p8 = refl;
-  p9 = refl;
-  p10 = refl;
-  zero-run = refl;
-}
+pub runs : Runs
+unfolding pictureOf joined run more after-row _>>=_ _>>_ remaining u16 u32 unread radial-data refuse-if u16At u32At signed symbology packetOf radialPacket packetHeader firstBin isEmpty overBody radialWalk radial frame covered countWrong rowOf rowAF1F reach cells centre f64 add div ofInt
+runs = record { zero-run = refl }
 
 pub generic : Generic
 unfolding pictureOf joined run more after-row pieces _>>=_ _>>_ remaining u16 u32 unread radial-data refuse-if u16At u32At signed symbology packetOf genericPacket bodyShort payload productBlock component radialComponent xdrRadials xdrRadial xdrWalk xdrFrame only int float string stringBody uint word short pass arrayCount pointer counted listHead elements further parameter rowOf row28 words push levels centre28 f32 f64 add div rem ofInt ofBits

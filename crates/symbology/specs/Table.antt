@@ -1,18 +1,17 @@
--- Bodies with their pictures or refusals: document 01's table 'Beams on both edges', lines P1 to P10, and bodies of packet 28.
+-- Bodies with their pictures or refusals: a zero run in AF1F, and packet 28. (Document 01's table, P1 to P13, is the sweep's.)
 use Prim.Native.Nat.{ℕ, _/_, _%_, _+_}
 use mathlib.Core.List.{List, [], _∷_, _++_}
 use mathlib.Core.Path.{_≡_}
 use lib.ListN.{replicate, length}
 use lib.Ieee.{Float}
 use Rattle.bytes.specs.Float.{f32, f64}
-use Rattle.bytes.specs.Refusal.{kind, nat, float, item}
+use Rattle.bytes.specs.Refusal.{kind, nat}
 use Rattle.bytes.specs.Result.{Result, accepted, refused}
 use Rattle.bytes.specs.Reading.{Piece, as-number, as-unread, as-data, pieces}
-use Rattle.bytes.specs.declared.error.XdrItem.the-variants as Item
 use Rattle.symbology.specs.Answers.{Picture, pictureOf}
 use Rattle.symbology.specs.Symbology.{symbology}
 use Rattle.symbology.specs.declared.figures.Packet.{Packet}
-use Rattle.symbology.specs.declared.figures.Packet.the-variants.{Packet16, PacketAf1f, Packet28}
+use Rattle.symbology.specs.declared.figures.Packet.the-variants.{PacketAf1f, Packet28}
 use Rattle.symbology.specs.declared.figures.Geometry.the-variants.{RangeScale, Gates}
 
 -- a halfword
@@ -32,29 +31,8 @@ abbrev pub onePicture : Packet → ℕ → Float → List ℕ → Result Picture
 onePicture packet bins centre row =
     accepted (record { figures = record { packet = packet; «n_radials» = 1; «n_bins» = bins; geometry = RangeScale 1 }; azimuths = centre ∷ []; codes = row })
 
-pub record Beams : Type 0 where
-  -- P1 17 bytes: 12
-  pub p1 : pictureOf (replicate 17 0) ≡ refused (kind 12 (nat 17 ∷ []))
-  -- P2 18 bytes, code 16: 12
-  pub p2 : pictureOf (start 16) ≡ refused (kind 12 (nat 18 ∷ []))
-  -- P3 18 bytes, code 17: 14
-  pub p3 : pictureOf (start 17) ≡ refused (kind 14 (nat 17 ∷ []))
-  -- P4 packet 28, 24 bytes, length 0: 23, unsigned, 0 left, 4 needed
-  pub p4 : pictureOf (start 28 ++ replicate 6 0) ≡ refused (kind 23 (item Item.Uint ∷ nat 0 ∷ nat 4 ∷ []))
-  -- P5 packet 16, one radial (2, 0, 10), data 7 9: centre 0.5, row 7 9
-  pub p5 : pictureOf (oneRadial 16 2 (2, 0, 10) (7 ∷ 9 ∷ [])) ≡ onePicture Packet16 2 (f64 5 10) (7 ∷ 9 ∷ [])
-  -- P6 width 100 passes, 101 is 20, with the width in degrees
-  pub p6-passes : pictureOf (oneRadial 16 2 (2, 0, 100) (7 ∷ 9 ∷ [])) ≡ onePicture Packet16 2 (f64 50 10) (7 ∷ 9 ∷ [])
-  pub p6-is-20 : pictureOf (oneRadial 16 2 (2, 0, 101) (7 ∷ 9 ∷ [])) ≡ refused (kind 20 (nat 0 ∷ float (f32 101 10) ∷ []))
-  -- AF1F, 5 bins: P7 `31 25` gives 1 1 1 5 5
-  pub p7 : pictureOf (oneRadial 0xAF1F 5 (1, 0, 10) (0x31 ∷ 0x25 ∷ [])) ≡ onePicture PacketAf1f 5 (f64 5 10) (1 ∷ 1 ∷ 1 ∷ 5 ∷ 5 ∷ [])
-  -- P8 `31 35` is 22 with 3
-  pub p8 : pictureOf (oneRadial 0xAF1F 5 (1, 0, 10) (0x31 ∷ 0x35 ∷ [])) ≡ refused (kind 22 (nat 0 ∷ nat 3 ∷ nat 5 ∷ []))
-  -- P9 `31 25 F7 00` as P7
-  pub p9 : pictureOf (oneRadial 0xAF1F 5 (2, 0, 10) (0x31 ∷ 0x25 ∷ 0xF7 ∷ 0x00 ∷ [])) ≡ onePicture PacketAf1f 5 (f64 5 10) (1 ∷ 1 ∷ 1 ∷ 5 ∷ 5 ∷ [])
-  -- P10 start 3,599, width 10: 360.4
-  pub p10 : pictureOf (oneRadial 16 2 (2, 3599, 10) (7 ∷ 9 ∷ [])) ≡ onePicture Packet16 2 (f64 3604 10) (7 ∷ 9 ∷ [])
-  -- a run of length 0 adds nothing, and the row goes on after it
+-- a run of length 0 adds nothing, and the row goes on after it
+pub record Runs : Type 0 where
   pub zero-run : pictureOf (oneRadial 0xAF1F 5 (2, 0, 10) (0x31 ∷ 0x07 ∷ 0x25 ∷ 0x00 ∷ [])) ≡ onePicture PacketAf1f 5 (f64 5 10) (1 ∷ 1 ∷ 1 ∷ 5 ∷ 5 ∷ [])
 
 -- ---- packet 28

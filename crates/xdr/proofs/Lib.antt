@@ -2,3 +2,4 @@ pub mod Items
 pub mod Lists
 pub mod Plains
 pub mod Examples
+mod CursorReads

@@ -1,0 +1,62 @@
+-- Demand 3 for two runs of the code: whatever arguments, outcomes and final buffers the contract of `read_sweep` allows. Assumes nothing.
+use Prim.Native.Nat.{ℕ}
+use mathlib.Core.List.{List}
+use mathlib.Core.Path.{_≡_, subst}
+use contract.Lifetimes.{Lfts}
+use borrow.Fn.World.{ArgsD, ResD}
+use borrow.Fn.Kinds.{endedOf}
+use denote.Triple.Clauses.{AtExit}
+use denote.Ref.{now}
+use Rattle.scale.specs.declared.physical.Scheme.{Scheme}
+use Rattle.sweep.specs.declared.sweep.Sweep.{Sweep}
+use Rattle.sweep.specs.declared.sweep.SweepAnswer.{SweepAnswer}
+use Rattle.sweep.specs.declared.sweep.SweepAnswer.the-variants as SweepAnswer
+use Rattle.sweep.specs.Demand3.{Buffers, Damaged, Ran, SameLengths, TwoRuns}
+use Rattle.sweep.proofs.TwoRuns.{two-runs}
+use Rattle.sweep.proofs.sweep.read_sweep.{signature}
+use Rattle.sweep.proofs.sweep.read_sweep.Kinds as kinds
+use Rattle.sweep.proofs.sweep.read_sweep.Reads as reads
+
+-- A call: its arguments (file, clock, scheme, body, azimuths, codes, physical, in this order), its result and the arguments at the return,
+-- as the contract allows them.
+pub record Call : Type 0 where
+  pub lifetimes : Lfts 5
+  pub given : ArgsD signature lifetimes
+  pub answer : ResD signature lifetimes
+  pub last : AtExit (endedOf 5 kinds.ps kinds.r) lifetimes
+  pub allowed : reads.Post lifetimes given answer last
+
+abbrev pub file : Call → List ℕ
+file c = now (c .given .0)
+
+abbrev pub clock : Call → ℕ
+clock c = c .given .1 .0
+
+abbrev pub scheme : Call → Scheme
+scheme c = c .given .1 .1 .0
+
+abbrev pub body : Call → List ℕ
+body c = now (c .given .1 .1 .1 .0)
+
+-- what the buffers hold before and after
+abbrev pub old : Call → Buffers
+old c = let a = c .given .1 .1 .1 .1 in record { azimuths = now (a .0); codes = now (a .1 .0); physical = now (a .1 .1 .0) }
+
+abbrev pub new : Call → Buffers
+new c = let s = c .last .1 .1 .1 .1 in record { azimuths = now (s .0); codes = now (s .1 .0); physical = now (s .1 .1 .0) }
+
+-- what the contract says of a call is what demand 3 calls a run
+pub call-runs : (c : Call) → Ran (scheme c) (file c) (clock c) (body c) (old c) (new c) (c .answer)
+call-runs c = let p = c .allowed in record { answered = p .0; azimuths = p .1 .0; codes = p .1 .1 .0; physical = p .1 .1 .1 }
+
+alike : {s s' : Scheme} {f f' : List ℕ} {k k' : ℕ} (b : List ℕ) (o n : Buffers) (a : SweepAnswer) → s' ≡ s → f' ≡ f → k' ≡ k → Ran s' f' k' b o n a → Ran s f k b o n a
+alike b o n a es ef ek r = rw (← es, ← ef, ← ek) r
+
+-- Two calls with the same file bytes, clock, scheme and buffer lengths. The first is accepted; the second body is damaged as demand 3 says.
+pub two-calls : (c d : Call) → file d ≡ file c → clock d ≡ clock c → scheme d ≡ scheme c → SameLengths (old c) (old d)
+    → (s : Sweep) → c .answer ≡ SweepAnswer.Accepted s → Damaged (body c) (s .figures) (body d)
+    → TwoRuns (scheme c) (file c) (body c) (body d) s (new c) (new d) (d .answer)
+two-calls c d files clocks schemes lengths s is damaged =
+    two-runs (scheme c) (file c) (clock c) (body c) (body d) s (old c) (new c) (old d) (new d) (d .answer)
+    (subst (Ran (scheme c) (file c) (clock c) (body c) (old c) (new c)) is (call-runs c))
+    (alike (body d) (old d) (new d) (d .answer) schemes files clocks (call-runs d)) lengths damaged
