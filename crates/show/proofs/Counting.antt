@@ -1,0 +1,10 @@
+-- A count of bytes at the start of a list, from its bound. Assumes nothing.
+use mathlib.Core.Path.{_≡_, sym}
+use mathlib.Core.List.{List}
+use Prim.Native.Nat.{ℕ, _≤_}
+use lib.ListN.{length, take}
+use lib.Seq.{length-take-le}
+use Rattle.io.specs.Counts.{Counts}
+
+pub counts : (n : ℕ) (xs : List ℕ) → n ≤ length xs → Counts n xs
+counts n xs h = (h, sym (length-take-le n xs h))

@@ -1,0 +1,13 @@
+use native.Mathlib.Omega.{arith}
+use Rattle.show.proofs.Counting.{counts}
+use Rattle.show.proofs.files.within.Statement.{statement}
+use Rattle.show.proofs.files.within.Tie as tie
+
+returns : tie.Need-returns
+returns c = counts _ _ (omega arith)
+
+returns-2 : tie.Need-returns-2
+returns-2 c = counts _ _ (omega arith)
+
+pub within-spec : {M : Type 1} → statement M
+within-spec = tie.close (tie.spec returns returns-2)

@@ -1,0 +1,2 @@
+pub mod Rounded
+pub mod Words

@@ -1,0 +1,223 @@
+// An accepted sweep in words: what the file says, the scale, the figures, and the first cells of the first radials.
+use head::pdb::PdbFields;
+use scale::physical::Declared;
+use scale::scaling::DeclaredLinearScale;
+use sweep::sweep::Sweep;
+use symbology::figures::Figures;
+use symbology::figures::Geometry;
+use symbology::figures::Packet;
+ghost use Prim.Native.Nat.{_≤_};
+
+// A line's name, in a column of its own.
+fn label(s: &[u8]) {
+    crate::text::say(s);
+    crate::text::pad(16, s.len());
+}
+
+fn whole_line(name: &[u8], n: usize) {
+    label(name);
+    crate::text::right_size(n, 16);
+    crate::text::say(b"\n");
+}
+
+fn signed_line(name: &[u8], z: i32) {
+    label(name);
+    crate::text::right_signed(z, 16);
+    crate::text::say(b"\n");
+}
+
+fn double_line(name: &[u8], x: f64, unit: &[u8]) {
+    label(name);
+    crate::floats::double(x, 16);
+    crate::text::say(unit);
+}
+
+fn fine_line(name: &[u8], x: f32, unit: &[u8]) {
+    label(name);
+    crate::floats::fine(x, 16);
+    crate::text::say(unit);
+}
+
+// Three bytes of the file from a place on.
+fn word_line(name: &[u8], file: &[u8], at: usize) {
+    label(name);
+    if at <= file.len() {
+        if 3 <= file.len() - at {
+            let end = at + 3;
+            crate::text::right(&file[at..end], 16);
+        }
+    }
+    crate::text::say(b"\n");
+}
+
+fn print_token(file: &[u8], at: usize) {
+    word_line(b"product", file, at);
+    if at <= file.len() {
+        word_line(b"site", file, at + 3);
+    }
+}
+
+fn print_fields(f: PdbFields, time: u64) {
+    double_line(b"latitude", f.lat, b" degrees\n");
+    double_line(b"longitude", f.lon, b" degrees\n");
+    double_line(b"height", f.height_m, b" m\n");
+    signed_line(b"product code", crate::text::wide_signed(f.product_code));
+    whole_line(b"vcp", f.vcp as usize);
+    double_line(b"elevation", f.elevation_deg, b" degrees\n");
+    whole_line(b"scan days", f.scan_days as usize);
+    signed_line(b"scan seconds", f.scan_seconds);
+    label(b"scan time");
+    crate::text::right_whole(time, 16);
+    crate::text::say(b" seconds since 1970\n");
+}
+
+fn print_scale(s: DeclaredLinearScale) {
+    fine_line(b"scale minimum", s.value_min, b"\n");
+    fine_line(b"scale step", s.value_increment, b"\n");
+    whole_line(b"scale levels", s.n_levels as usize);
+    whole_line(b"scale floor", s.data_floor_code as usize);
+}
+
+fn print_declared(d: Declared) {
+    match d {
+        Declared::Scale(s) => print_scale(s),
+        Declared::Absent => {
+            label(b"scale");
+            crate::text::right(b"none", 16);
+            crate::text::say(b"\n");
+        }
+    }
+}
+
+fn print_packet(p: Packet) {
+    label(b"packet");
+    match p {
+        Packet::Packet16 => crate::text::right(b"16", 16),
+        Packet::PacketAf1f => crate::text::right(b"AF1F", 16),
+        Packet::Packet28 => crate::text::right(b"28", 16),
+    }
+    crate::text::say(b"\n");
+}
+
+fn print_figures(f: Figures) {
+    let packet = f.packet;
+    print_packet(packet);
+    whole_line(b"radials", f.n_radials);
+    whole_line(b"bins", f.n_bins);
+    let geometry = f.geometry;
+    match geometry {
+        Geometry::RangeScale(n) => whole_line(b"range scale", n as usize),
+        Geometry::Gates {
+            gate_width_m,
+            first_gate_m,
+        } => {
+            fine_line(b"gate width", gate_width_m, b" m\n");
+            fine_line(b"first gate", first_gate_m, b" m\n");
+        }
+    }
+}
+
+fn least(a: usize, b: usize) -> usize
+    ensures { λ r. ⌜ (r ≤ a) × (r ≤ b) ⌝ }
+{
+    if a < b { a } else { b }
+}
+
+fn print_codes(codes: &[u16]) {
+    crate::text::say(b"  codes ");
+    let mut i = 0usize;
+    while i < codes.len() {
+        crate::text::say(b" ");
+        crate::text::right_whole(wide(codes[i]), 8);
+        i += 1;
+    }
+    crate::text::say(b"\n");
+}
+
+fn wide(x: u16) -> u64 {
+    x as u64
+}
+
+fn print_values(physical: &[f32]) {
+    crate::text::say(b"  values");
+    let mut i = 0usize;
+    while i < physical.len() {
+        crate::text::say(b" ");
+        crate::floats::cell(physical[i], 8);
+        i += 1;
+    }
+    crate::text::say(b"\n");
+}
+
+// The first n cells of a radial that stand from place `at` on.
+fn print_radial(radial: usize, azimuth: f64, at: usize, n: usize, codes: &[u16], physical: &[f32]) {
+    crate::text::say(b"radial ");
+    crate::text::size(radial);
+    crate::text::say(b", centre ");
+    crate::floats::double(azimuth, 0);
+    crate::text::say(b" degrees\n");
+    if at <= codes.len() {
+        if n <= codes.len() - at {
+            let end = at + n;
+            print_codes(&codes[at..end]);
+        }
+    }
+    if at <= physical.len() {
+        if n <= physical.len() - at {
+            let end = at + n;
+            print_values(&physical[at..end]);
+        }
+    }
+}
+
+fn print_radials(radials: usize, bins: usize, azimuths: &[f64], codes: &[u16], physical: &[f32]) {
+    let n = least(bins, 8);
+    let shown = least(least(radials, 4), azimuths.len());
+    let mut at = 0usize;
+    let mut radial = 0usize;
+    while radial < shown {
+        print_radial(radial, azimuths[radial], at, n, codes, physical);
+        if codes.len() - at < bins {
+            return;
+        }
+        at += bins;
+        radial += 1;
+    }
+}
+
+// Whether a sweep has more cells than there is room for.
+fn is_over(radials: usize, bins: usize, room: usize) -> bool {
+    if bins == 0 {
+        return false;
+    }
+    room / bins < radials
+}
+
+fn print_extent(radials: usize, bins: usize) {
+    crate::text::say(b"\nthe first ");
+    crate::text::size(least(radials, 4));
+    crate::text::say(b" of ");
+    crate::text::size(radials);
+    crate::text::say(b" radials, the first ");
+    crate::text::size(least(bins, 8));
+    crate::text::say(b" of ");
+    crate::text::size(bins);
+    crate::text::say(b" bins\n");
+}
+
+pub fn print(s: Sweep, file: &[u8], azimuths: &[f64], codes: &[u16], physical: &[f32]) {
+    print_token(file, s.token);
+    let fields = s.fields;
+    print_fields(fields, s.time);
+    let declared = s.declared;
+    print_declared(declared);
+    let figures = s.figures;
+    print_figures(figures);
+    print_extent(figures.n_radials, figures.n_bins);
+    if is_over(figures.n_radials, figures.n_bins, physical.len()) {
+        crate::text::say(b"values are worked out for the first ");
+        crate::text::size(physical.len());
+        crate::text::say(b" cells alone\n");
+    }
+    print_radials(figures.n_radials, figures.n_bins, azimuths, codes, physical);
+}
