@@ -15,14 +15,14 @@ abbrev μ-loop : tie.MeasureT-loop
 loop-holds : tie.Need-loop-holds Inv-loop μ-loop
 loop-holds c = copied-first _ _ (c .pre)
 
-mul-to : tie.Need-mul-to Inv-loop μ-loop
-mul-to c = search needs
+mul-levels : tie.Need-mul-levels Inv-loop μ-loop
+mul-levels c = search needs
 
 shared-slice-read-levels : tie.Need-shared-slice-read-levels Inv-loop μ-loop
 shared-slice-read-levels c = search needs
 
-mul-to-2 : tie.Need-mul-to-2 Inv-loop μ-loop
-mul-to-2 c = search needs
+mul-levels-2 : tie.Need-mul-levels-2 Inv-loop μ-loop
+mul-levels-2 c = search needs
 
 slice-write-levels : tie.Need-slice-write-levels Inv-loop μ-loop
 slice-write-levels c = search needs
@@ -49,9 +49,9 @@ copy-f32-spec =
     Inv-loop
     μ-loop
     loop-holds
-    mul-to
+    mul-levels
     shared-slice-read-levels
-    mul-to-2
+    mul-levels-2
     slice-write-levels
     add-i
     loop-less

@@ -15,14 +15,14 @@ abbrev μ-loop : tie.MeasureT-loop
 loop-holds : tie.Need-loop-holds Inv-loop μ-loop
 loop-holds c = copied-first _ _ (c .pre)
 
-mul-to : tie.Need-mul-to Inv-loop μ-loop
-mul-to c = search needs
+mul-floats : tie.Need-mul-floats Inv-loop μ-loop
+mul-floats c = search needs
 
 shared-slice-read-floats : tie.Need-shared-slice-read-floats Inv-loop μ-loop
 shared-slice-read-floats c = search needs
 
-mul-to-2 : tie.Need-mul-to-2 Inv-loop μ-loop
-mul-to-2 c = search needs
+mul-floats-2 : tie.Need-mul-floats-2 Inv-loop μ-loop
+mul-floats-2 c = search needs
 
 slice-write-floats : tie.Need-slice-write-floats Inv-loop μ-loop
 slice-write-floats c = search needs
@@ -49,9 +49,9 @@ copy-f64-spec =
     Inv-loop
     μ-loop
     loop-holds
-    mul-to
+    mul-floats
     shared-slice-read-floats
-    mul-to-2
+    mul-floats-2
     slice-write-floats
     add-i
     loop-less

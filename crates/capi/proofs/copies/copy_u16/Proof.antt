@@ -15,14 +15,14 @@ abbrev μ-loop : tie.MeasureT-loop
 loop-holds : tie.Need-loop-holds Inv-loop μ-loop
 loop-holds c = copied-first _ _ (c .pre)
 
-mul-to : tie.Need-mul-to Inv-loop μ-loop
-mul-to c = search needs
+mul-table : tie.Need-mul-table Inv-loop μ-loop
+mul-table c = search needs
 
 shared-slice-read-table : tie.Need-shared-slice-read-table Inv-loop μ-loop
 shared-slice-read-table c = search needs
 
-mul-to-2 : tie.Need-mul-to-2 Inv-loop μ-loop
-mul-to-2 c = search needs
+mul-table-2 : tie.Need-mul-table-2 Inv-loop μ-loop
+mul-table-2 c = search needs
 
 slice-write-table : tie.Need-slice-write-table Inv-loop μ-loop
 slice-write-table c = search needs
@@ -49,9 +49,9 @@ copy-u16-spec =
     Inv-loop
     μ-loop
     loop-holds
-    mul-to
+    mul-table
     shared-slice-read-table
-    mul-to-2
+    mul-table-2
     slice-write-table
     add-i
     loop-less

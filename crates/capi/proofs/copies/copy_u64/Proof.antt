@@ -15,14 +15,14 @@ abbrev μ-loop : tie.MeasureT-loop
 loop-holds : tie.Need-loop-holds Inv-loop μ-loop
 loop-holds c = copied-first _ _ (c .pre)
 
-mul-to : tie.Need-mul-to Inv-loop μ-loop
-mul-to c = search needs
+mul-ints : tie.Need-mul-ints Inv-loop μ-loop
+mul-ints c = search needs
 
 shared-slice-read-ints : tie.Need-shared-slice-read-ints Inv-loop μ-loop
 shared-slice-read-ints c = search needs
 
-mul-to-2 : tie.Need-mul-to-2 Inv-loop μ-loop
-mul-to-2 c = search needs
+mul-ints-2 : tie.Need-mul-ints-2 Inv-loop μ-loop
+mul-ints-2 c = search needs
 
 slice-write-ints : tie.Need-slice-write-ints Inv-loop μ-loop
 slice-write-ints c = search needs
@@ -49,9 +49,9 @@ copy-u64-spec =
     Inv-loop
     μ-loop
     loop-holds
-    mul-to
+    mul-ints
     shared-slice-read-ints
-    mul-to-2
+    mul-ints-2
     slice-write-ints
     add-i
     loop-less
