@@ -12,13 +12,13 @@ use symbology::figures::FiguresRead;
 // A sweep that lacks nothing but room for all its physical values: the codes in full, and the values of as many cells as there is
 // room for.
 fn read_in_part(
+    scheme: Scheme,
     file: &[u8],
     clock: u64,
-    scheme: Scheme,
     body: &[u8],
-    azimuths: &mut [f64],
-    codes: &mut [u16],
     physical: &mut [f32],
+    codes: &mut [u16],
+    azimuths: &mut [f64],
 ) -> SweepAnswer {
     let head = match sweep::plan::read_head(scheme, file, clock) {
         HeadRead::Value(h) => h,
@@ -68,28 +68,12 @@ fn is_part(answer: SweepAnswer) -> bool {
     }
 }
 
-// The sweep reading's answer; where only room for the physical values lacks, the answer in part.
-fn read(
-    file: &[u8],
-    clock: u64,
-    scheme: Scheme,
-    body: &[u8],
-    azimuths: &mut [f64],
-    codes: &mut [u16],
-    physical: &mut [f32],
-) -> SweepAnswer {
-    let answer = sweep::sweep::read_sweep(file, clock, scheme, body, azimuths, codes, physical);
-    if is_part(answer) {
-        return read_in_part(file, clock, scheme, body, azimuths, codes, physical);
-    }
-    answer
-}
-
+// Where only room for the physical values lacks, the answer is given in part.
 pub fn show(file: &[u8], clock: u64, scheme: Scheme, body: &[u8]) {
     let mut azimuths = crate::buffers::azimuths();
     let mut codes = crate::buffers::codes();
     let mut physical = crate::buffers::physical();
-    match read(
+    let mut answer = sweep::sweep::read_sweep(
         file,
         clock,
         scheme,
@@ -97,7 +81,19 @@ pub fn show(file: &[u8], clock: u64, scheme: Scheme, body: &[u8]) {
         &mut azimuths,
         &mut codes,
         &mut physical,
-    ) {
+    );
+    if is_part(answer) {
+        answer = read_in_part(
+            scheme,
+            file,
+            clock,
+            body,
+            &mut physical,
+            &mut codes,
+            &mut azimuths,
+        );
+    }
+    match answer {
         SweepAnswer::Refused(e) => crate::refusals::print(e),
         SweepAnswer::Accepted(s) => crate::picture::print(s, file, &azimuths, &codes, &physical),
     }
