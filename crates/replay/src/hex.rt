@@ -3,6 +3,7 @@ ghost use Prim.Native.Nat.{_≤_};
 ghost use mathlib.Core.Path.{_≡_};
 ghost use lib.ListN.{length};
 ghost use Rattle.io.specs.Counts.{Counts};
+ghost use Rattle.replay.specs.Hex.{digitValue, byteOf};
 
 // Room for the bytes of any word of a line.
 pub fn room() -> [u8; 32768]
@@ -13,25 +14,25 @@ pub fn room() -> [u8; 32768]
 
 // The value of a hexadecimal digit; 16 of any other byte.
 fn digit(b: u8) -> u32
-    ensures { λ r. ⌜ r ≤ 16 ⌝ }
+    ensures { λ r. ⌜ (r ≡ digitValue b) × (r ≤ 16) ⌝ }
 {
-    if b < b'0' {
+    if b < 48 {
         return 16;
     }
-    if b <= b'9' {
-        return (b - b'0') as u32;
+    if b < 58 {
+        return (b - 48) as u32;
     }
-    if b < b'A' {
+    if b < 65 {
         return 16;
     }
-    if b <= b'F' {
-        return (b - b'A') as u32 + 10;
+    if b < 71 {
+        return (b - 55) as u32;
     }
-    if b < b'a' {
+    if b < 97 {
         return 16;
     }
-    if b <= b'f' {
-        return (b - b'a') as u32 + 10;
+    if b < 103 {
+        return (b - 87) as u32;
     }
     16
 }
@@ -64,7 +65,9 @@ pub fn is_bytes(word: &[u8]) -> bool {
     is_digits(word)
 }
 
-fn byte_of(high: u8, low: u8) -> u8 {
+fn byte_of(high: u8, low: u8) -> u8
+    ensures { λ r. ⌜ r ≡ byteOf high low ⌝ }
+{
     (digit(high) % 16 * 16 + digit(low) % 16) as u8
 }
 

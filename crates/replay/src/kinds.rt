@@ -131,7 +131,7 @@ pub fn scheme(word: &[u8]) -> u32 {
     5
 }
 
-// The word of a scheme's parameter: the eight digits of 0 where it has none.
+// The word of a scheme's parameter; an empty one where it has none.
 pub fn parameter(word: &[u8]) -> &[u8] {
     if word.len() == 10 {
         return &word[2..];
@@ -174,16 +174,17 @@ fn is_items(word: &[u8]) -> bool {
     0 < i
 }
 
-// Whether a word is what a letter asks for: w any, n a size, h a u16, z an i32, j an i16, c a clock, b bytes, x the bits of a float,
-// s a scheme, k the kind of a field, o XDR items.
+// Whether a word is what a letter asks for: w any, n a size, h a u16, z an i32, j an i16, c a clock, b bytes, t 32 bytes, x the bits of
+// a float, s a scheme, k the kind of a field, o XDR items.
 fn fits(word: &[u8], letter: u8) -> bool {
     match letter {
-        b'n' => crate::words::is_unsigned(word, u64::MAX),
+        b'n' => crate::words::is_size(word),
         b'h' => crate::words::is_unsigned(word, 65535),
         b'z' => crate::words::is_signed(word, 2147483647),
         b'j' => crate::words::is_signed(word, 32767),
         b'c' => crate::words::is_signed(word, u64::MAX),
         b'b' => crate::hex::is_bytes(word),
+        b't' => word.len() == 64 && crate::hex::is_bytes(word),
         b'x' => crate::hex::is_float(word),
         b's' => is_scheme(word),
         b'k' => field_kind(word) < 4,
@@ -207,18 +208,12 @@ fn has(line: &[u8], letters: &[u8]) -> bool {
 pub fn is_formed(line: &[u8], kind: Kind) -> bool {
     match kind {
         Kind::Sweep => has(line, b"wwcsnnnbb"),
-        Kind::Symbology => has(line, b"wwb"),
-        Kind::Token => has(line, b"wwb"),
-        Kind::Header => has(line, b"wwb"),
+        Kind::Symbology | Kind::Token | Kind::Header | Kind::Trailing => has(line, b"wwb"),
         Kind::Time => has(line, b"wwchz"),
         Kind::Field => has(line, b"wwbnnk"),
-        Kind::Block => has(line, b"wwbn"),
-        Kind::Linear => has(line, b"wwbn"),
-        Kind::Float => has(line, b"wwbn"),
-        Kind::Threshold => has(line, b"wwbn"),
+        Kind::Block | Kind::Linear | Kind::Float | Kind::Threshold => has(line, b"wwbn"),
         Kind::Precip => has(line, b"wwbnx"),
-        Kind::Legacy => has(line, b"wwbx"),
-        Kind::Trailing => has(line, b"wwb"),
+        Kind::Legacy => has(line, b"wwtx"),
         Kind::Known => has(line, b"wwj"),
         Kind::Codes => has(line, b"ww"),
         Kind::Xdr => has(line, b"wwob"),

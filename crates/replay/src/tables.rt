@@ -58,7 +58,6 @@ pub fn legacy(line: &[u8]) {
     );
     if number != 0 {
         crate::print::named(b"R ", number as u64);
-        crate::lent::check_physical(&levels, 0);
         return;
     }
     print_levels(&levels);

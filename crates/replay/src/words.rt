@@ -113,6 +113,14 @@ pub fn is_unsigned(word: &[u8], most: u64) -> bool {
     false
 }
 
+// Whether it is one that a usize holds; `number` answers the greatest one on every number over it.
+pub fn is_size(word: &[u8]) -> bool {
+    if is_unsigned(word, u64::MAX - 1) {
+        return true;
+    }
+    bytes::text::same(word, b"18446744073709551615")
+}
+
 // Whether it is one from -1 - `most` to `most`.
 pub fn is_signed(word: &[u8], most: u64) -> bool {
     if is_negative(word) {
