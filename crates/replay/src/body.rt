@@ -61,10 +61,6 @@ fn print_azimuths(azimuths: &[f64], n: usize) {
     }
 }
 
-fn wide(x: u16) -> u64 {
-    x as u64
-}
-
 fn print_codes(codes: &[u16], n: usize) {
     say(b" codes=");
     let mut i = 0usize;
@@ -72,7 +68,7 @@ fn print_codes(codes: &[u16], n: usize) {
         if n <= i {
             return;
         }
-        crate::print::hex(wide(codes[i]), 4);
+        crate::print::hex(crate::print::wide16(codes[i]), 4);
         i += 1;
     }
 }

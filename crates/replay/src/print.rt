@@ -29,7 +29,15 @@ pub fn hex(n: u64, width: usize) {
     io::print_hex(1, n, width);
 }
 
-fn wide(x: u8) -> u64 {
+fn wide8(x: u8) -> u64 {
+    x as u64
+}
+
+pub fn wide16(x: u16) -> u64 {
+    x as u64
+}
+
+fn wide32(x: u32) -> u64 {
     x as u64
 }
 
@@ -40,13 +48,9 @@ pub fn hex_bytes(s: &[u8]) {
     }
     let mut i = 0usize;
     while i < s.len() {
-        hex(wide(s[i]), 2);
+        hex(wide8(s[i]), 2);
         i += 1;
     }
-}
-
-fn wide32(x: u32) -> u64 {
-    x as u64
 }
 
 // The bits of an f32, every NaN alike.

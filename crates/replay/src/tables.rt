@@ -68,10 +68,6 @@ pub fn known(line: &[u8]) {
     crate::print::named(b"A ", number as u64);
 }
 
-fn wide(x: u16) -> u64 {
-    x as u64
-}
-
 fn print_codes(codes: &[u16]) {
     say(b"A [");
     let mut i = 0usize;
@@ -79,7 +75,7 @@ fn print_codes(codes: &[u16]) {
         if 0 < i {
             say(b", ");
         }
-        crate::print::whole(wide(codes[i]));
+        crate::print::whole(crate::print::wide16(codes[i]));
         i += 1;
     }
     say(b"]");

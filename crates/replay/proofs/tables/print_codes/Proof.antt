@@ -25,14 +25,14 @@ slice-aggregate-say-2 c = search needs
 say-requires-2 : tie.Need-say-requires-2 Inv-loop μ-loop
 say-requires-2 c κs = search needs
 
-mul-wide : tie.Need-mul-wide Inv-loop μ-loop
-mul-wide c = search needs
+mul-wide16 : tie.Need-mul-wide16 Inv-loop μ-loop
+mul-wide16 c = search needs
 
-shared-slice-read-wide : tie.Need-shared-slice-read-wide Inv-loop μ-loop
-shared-slice-read-wide c = search needs
+shared-slice-read-wide16 : tie.Need-shared-slice-read-wide16 Inv-loop μ-loop
+shared-slice-read-wide16 c = search needs
 
-wide-requires : tie.Need-wide-requires Inv-loop μ-loop
-wide-requires c κs = search needs
+wide16-requires : tie.Need-wide16-requires Inv-loop μ-loop
+wide16-requires c κs = search needs
 
 whole-requires : tie.Need-whole-requires Inv-loop μ-loop
 whole-requires c κs = search needs
@@ -66,9 +66,9 @@ print-codes-spec =
     loop-holds
     slice-aggregate-say-2
     say-requires-2
-    mul-wide
-    shared-slice-read-wide
-    wide-requires
+    mul-wide16
+    shared-slice-read-wide16
+    wide16-requires
     whole-requires
     add-i
     loop-less
