@@ -1,0 +1,62 @@
+use borrow.Author.Needs.{needs}
+use Prim.Native.Nat.{_≤_, _-_}
+use lib.ListN.{length}
+use Rattle.replay.proofs.body.print_azimuths.Statement.{statement}
+use Rattle.replay.proofs.body.print_azimuths.Tie as tie
+
+abbrev Inv-loop : tie.InvT-loop
+Inv-loop azimuths n i₀ i = i ≤ length azimuths
+
+abbrev μ-loop : tie.MeasureT-loop
+μ-loop azimuths n i₀ i = length azimuths - i
+
+slice-aggregate-say : tie.Need-slice-aggregate-say Inv-loop μ-loop
+slice-aggregate-say c = search needs
+
+say-requires : tie.Need-say-requires Inv-loop μ-loop
+say-requires c κs = search needs
+
+loop-holds : tie.Need-loop-holds Inv-loop μ-loop
+loop-holds c = search needs
+
+returns : tie.Need-returns Inv-loop μ-loop
+returns c = search needs
+
+mul-double : tie.Need-mul-double Inv-loop μ-loop
+mul-double c = search needs
+
+shared-slice-read-double : tie.Need-shared-slice-read-double Inv-loop μ-loop
+shared-slice-read-double c = search needs
+
+double-requires : tie.Need-double-requires Inv-loop μ-loop
+double-requires c κs = search needs
+
+add-i : tie.Need-add-i Inv-loop μ-loop
+add-i c = search needs
+
+loop-less : tie.Need-loop-less Inv-loop μ-loop
+loop-less c = search needs
+
+loop-again : tie.Need-loop-again Inv-loop μ-loop
+loop-again c = search needs
+
+returns-2 : tie.Need-returns-2 Inv-loop μ-loop
+returns-2 c = search needs
+
+pub print-azimuths-spec : {M : Type 1} → statement M
+print-azimuths-spec =
+    tie.close
+    (tie.spec
+    Inv-loop
+    μ-loop
+    slice-aggregate-say
+    say-requires
+    loop-holds
+    returns
+    mul-double
+    shared-slice-read-double
+    double-requires
+    add-i
+    loop-less
+    loop-again
+    returns-2)

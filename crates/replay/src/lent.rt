@@ -1,0 +1,104 @@
+// The buffers that are lent to the library: filled with a pattern, read, and looked at afterwards.
+ghost use mathlib.Core.Path.{_≡_};
+ghost use lib.ListN.{length};
+
+pub fn azimuths() -> [f64; 4096]
+    ensures { λ r. ⌜ 4096 ≡ length r ⌝ }
+{
+    [-7777.0f64; 4096]
+}
+
+pub fn codes() -> [u16; 4096]
+    ensures { λ r. ⌜ 4096 ≡ length r ⌝ }
+{
+    [0xa5c3u16; 4096]
+}
+
+pub fn physical() -> [f32; 4096]
+    ensures { λ r. ⌜ 4096 ≡ length r ⌝ }
+{
+    [-7777.0f32; 4096]
+}
+
+// The report, with places behind it that must be kept.
+pub fn ints() -> [u64; 24] {
+    [0xa5a5_a5a5_a5a5_a5a5u64; 24]
+}
+
+pub fn floats() -> [f64; 16] {
+    [-7777.0f64; 16]
+}
+
+pub fn int(ints: &[u64], i: usize) -> u64 {
+    if i < ints.len() { ints[i] } else { 0 }
+}
+
+pub fn float(floats: &[f64], i: usize) -> f64 {
+    if i < floats.len() { floats[i] } else { 0.0f64 }
+}
+
+fn say_touched(name: &[u8]) {
+    crate::print::say(b" KEPT ");
+    crate::print::say(name);
+}
+
+// Each of these says where a place from `from` on was written.
+pub fn check_azimuths(azimuths: &[f64], from: usize) {
+    let mut i = from;
+    while i < azimuths.len() {
+        if azimuths[i] != -7777.0f64 {
+            say_touched(b"azimuths");
+            return;
+        }
+        i += 1;
+    }
+}
+
+pub fn check_codes(codes: &[u16], from: usize) {
+    let mut i = from;
+    while i < codes.len() {
+        if codes[i] != 0xa5c3u16 {
+            say_touched(b"codes");
+            return;
+        }
+        i += 1;
+    }
+}
+
+pub fn check_physical(physical: &[f32], from: usize) {
+    let mut i = from;
+    while i < physical.len() {
+        if physical[i] != -7777.0f32 {
+            say_touched(b"physical");
+            return;
+        }
+        i += 1;
+    }
+}
+
+fn check_ints(ints: &[u64]) {
+    let mut i = 16usize;
+    while i < ints.len() {
+        if ints[i] != 0xa5a5_a5a5_a5a5_a5a5u64 {
+            say_touched(b"ints");
+            return;
+        }
+        i += 1;
+    }
+}
+
+fn check_floats(floats: &[f64]) {
+    let mut i = 8usize;
+    while i < floats.len() {
+        if floats[i] != -7777.0f64 {
+            say_touched(b"floats");
+            return;
+        }
+        i += 1;
+    }
+}
+
+pub fn check_report(ints: &[u64], floats: &[f64]) {
+    check_ints(ints);
+    check_floats(floats);
+}
