@@ -62,12 +62,12 @@ fn check(azimuths: &[f64], codes: &[u16], physical: &[f32], radials: usize, cell
 
 fn print(
     number: u32,
-    file: &[u8],
     ints: &[u64],
     floats: &[f64],
     azimuths: &[f64],
     codes: &[u16],
     physical: &[f32],
+    file: &[u8],
 ) {
     if number != 0 {
         crate::refusal::print(number, ints, floats);
@@ -133,7 +133,7 @@ fn answer_on(
         &mut ints,
         &mut floats,
     );
-    print(number, file, &ints, &floats, azimuths, codes, physical);
+    print(number, &ints, &floats, azimuths, codes, physical, file);
     crate::lent::check_report(&ints, &floats);
 }
 

@@ -68,32 +68,36 @@ fn is_part(answer: SweepAnswer) -> bool {
     }
 }
 
-// Where only room for the physical values lacks, the answer is given in part.
+// The sweep reading's answer; where only room for the physical values lacks, the answer in part.
+fn read(
+    file: &[u8],
+    body: &[u8],
+    scheme: Scheme,
+    clock: u64,
+    azimuths: &mut [f64],
+    codes: &mut [u16],
+    physical: &mut [f32],
+) -> SweepAnswer {
+    let answer = sweep::sweep::read_sweep(file, clock, scheme, body, azimuths, codes, physical);
+    if is_part(answer) {
+        return read_in_part(scheme, file, clock, body, physical, codes, azimuths);
+    }
+    answer
+}
+
 pub fn show(file: &[u8], clock: u64, scheme: Scheme, body: &[u8]) {
     let mut azimuths = crate::buffers::azimuths();
     let mut codes = crate::buffers::codes();
     let mut physical = crate::buffers::physical();
-    let mut answer = sweep::sweep::read_sweep(
+    match read(
         file,
-        clock,
-        scheme,
         body,
+        scheme,
+        clock,
         &mut azimuths,
         &mut codes,
         &mut physical,
-    );
-    if is_part(answer) {
-        answer = read_in_part(
-            scheme,
-            file,
-            clock,
-            body,
-            &mut physical,
-            &mut codes,
-            &mut azimuths,
-        );
-    }
-    match answer {
+    ) {
         SweepAnswer::Refused(e) => crate::refusals::print(e),
         SweepAnswer::Accepted(s) => crate::picture::print(s, file, &azimuths, &codes, &physical),
     }
