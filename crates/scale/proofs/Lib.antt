@@ -1,4 +1,5 @@
 pub mod Finite
+pub mod Gaps
 pub mod Mapped
 pub mod Levels
 pub mod Copied

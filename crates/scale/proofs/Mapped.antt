@@ -34,3 +34,7 @@ module _ {A B : Type 0} {f : A → B} {cs : List A} {d xs : List B} {i : ℕ} (i
   mapped-end h =
       let e : i ≡ length cs = omega (arith, inv .place) in
       laid-end (rw (e, drop-length cs) at (inv .laid))
+
+-- of no elements nothing is written
+pub mapped-none : {A B : Type 0} (f : A → B) (cs : List A) (d : List B) → length cs ≡ 0 → d ≡ map f cs ++ drop (length cs) d
+mapped-none f cs d e = mapped-end (mapped-first f cs d (omega arith)) (omega arith)

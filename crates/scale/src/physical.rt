@@ -6,8 +6,13 @@ use crate::scaling::PrecipScale;
 use bytes::error::Buffer;
 use bytes::error::Level3DecodeError;
 ghost use mathlib.Core.Path.{_≡_};
-ghost use Prim.Native.Nat.{_≤_};
+ghost use mathlib.Core.Bool.{cond};
+ghost use Prim.Native.Nat.{_-_, _≤_};
 ghost use lib.ListN.{length};
+ghost use lib.IntN.{pos};
+ghost use lib.Dec.{ltb};
+ghost use lib.Ieee.{nan};
+ghost use Rattle.bytes.specs.Float.{whole32, f32};
 ghost use Rattle.bytes.specs.Result.{accepted, then, lent};
 ghost use Rattle.scale.specs.Pdb.{thresholdPlace};
 ghost use Rattle.scale.specs.Physical.{openValue, cappedValue, classValue, levelOf, precipValue, valueOf, filled, scaleFields, declaredScale, fillOf, Ready};
@@ -117,28 +122,6 @@ pub fn declared_scale(v: Scaling) -> DeclaredScaleRead
     }
 }
 
-// Linear from the floor on.
-fn open_value(min: f32, step: f32, floor: u16, code: u16) -> f32
-    ensures { λ r. ⌜ r ≡ openValue min step floor code ⌝ }
-{
-    if code < floor {
-        bytes::float::nan32()
-    } else {
-        min + (code - floor) as f32 * step
-    }
-}
-
-// Linear from the floor to the top.
-fn capped_value(min: f32, step: f32, floor: u16, top: u16, code: u16) -> f32
-    ensures { λ r. ⌜ r ≡ cappedValue min step floor top code ⌝ }
-{
-    if top < code {
-        bytes::float::nan32()
-    } else {
-        open_value(min, step, floor, code)
-    }
-}
-
 // Class: 0 is NaN.
 pub fn class_int_physical(code: u16) -> f32
     ensures { λ r. ⌜ r ≡ classValue code ⌝ }
@@ -148,6 +131,67 @@ pub fn class_int_physical(code: u16) -> f32
     } else {
         code as f32
     }
+}
+
+// 0.0, worked out from a code so that the compiler does not know the number. If it knew NaN and the floor, it would choose between values
+// where `gap` adds, and test codes as 16 bits, and the loops below would be slower.
+fn zero_of(code: u16) -> f32
+    ensures { λ r. ⌜ r ≡ f32 0 1 ⌝ }
+{
+    let x = code as f32;
+    x - x
+}
+
+// A number, not known to the compiler either.
+fn hidden(zero: f32, n: u16) -> i32
+    requires { ⌜ zero ≡ f32 0 1 ⌝ }
+    ensures { λ r. ⌜ r ≡ pos n ⌝ }
+{
+    n as i32 + zero as i32
+}
+
+// What makes a value NaN when it is added to it: NaN where a is less than b, else 0.0.
+fn gap(zero: f32, a: u16, b: u16) -> f32
+    requires { ⌜ zero ≡ f32 0 1 ⌝ }
+    ensures { λ r. ⌜ r ≡ cond (ltb a b) nan (f32 0 1) ⌝ }
+{
+    if (a as i32) < hidden(zero, b) {
+        zero / zero
+    } else {
+        0.0
+    }
+}
+
+// The steps from the floor to a code; below the floor NaN.
+fn steps(zero: f32, floor: u16, code: u16) -> f32
+    requires { ⌜ zero ≡ f32 0 1 ⌝ }
+    ensures { λ r. ⌜ r ≡ cond (ltb code floor) nan (whole32 (pos (code - floor))) ⌝ }
+{
+    let above = code as i32 - hidden(zero, floor);
+    above as f32 + gap(zero, code, floor)
+}
+
+// Linear from the floor on.
+fn open_value(zero: f32, min: f32, step: f32, floor: u16, code: u16) -> f32
+    requires { ⌜ zero ≡ f32 0 1 ⌝ }
+    ensures { λ r. ⌜ r ≡ openValue min step floor code ⌝ }
+{
+    min + steps(zero, floor, code) * step
+}
+
+// Linear from the floor to the top.
+fn capped_value(zero: f32, min: f32, step: f32, floor: u16, top: u16, code: u16) -> f32
+    requires { ⌜ zero ≡ f32 0 1 ⌝ }
+    ensures { λ r. ⌜ r ≡ cappedValue min step floor top code ⌝ }
+{
+    min + (steps(zero, floor, code) + gap(zero, top, code)) * step
+}
+
+fn class_value(zero: f32, code: u16) -> f32
+    requires { ⌜ zero ≡ f32 0 1 ⌝ }
+    ensures { λ r. ⌜ r ≡ classValue code ⌝ }
+{
+    code as f32 + gap(zero, code, 1)
 }
 
 // The level of a code, of the sixteen there are. A level is read at every code, so that nothing but the value depends on the test.
@@ -166,9 +210,13 @@ fn fill_open(min: f32, step: f32, floor: u16, codes: &[u16], physical: &mut [f32
     requires { ⌜ length (now codes) ≤ length (now physical) ⌝ }
     ensures { λ _. ⌜ now (physical .exit) ≡ filled (openValue min step floor) (now (codes .entry)) (now (physical .entry)) ⌝ }
 {
+    if codes.len() == 0 {
+        return;
+    }
+    let zero = zero_of(codes[0]);
     let mut i = 0usize;
     while i < codes.len() {
-        physical[i] = open_value(min, step, floor, codes[i]);
+        physical[i] = open_value(zero, min, step, floor, codes[i]);
         i += 1usize;
     }
 }
@@ -177,9 +225,13 @@ fn fill_capped(min: f32, step: f32, floor: u16, top: u16, codes: &[u16], physica
     requires { ⌜ length (now codes) ≤ length (now physical) ⌝ }
     ensures { λ _. ⌜ now (physical .exit) ≡ filled (cappedValue min step floor top) (now (codes .entry)) (now (physical .entry)) ⌝ }
 {
+    if codes.len() == 0 {
+        return;
+    }
+    let zero = zero_of(codes[0]);
     let mut i = 0usize;
     while i < codes.len() {
-        physical[i] = capped_value(min, step, floor, top, codes[i]);
+        physical[i] = capped_value(zero, min, step, floor, top, codes[i]);
         i += 1usize;
     }
 }
@@ -199,9 +251,13 @@ fn fill_class(codes: &[u16], physical: &mut [f32])
     requires { ⌜ length (now codes) ≤ length (now physical) ⌝ }
     ensures { λ _. ⌜ now (physical .exit) ≡ filled classValue (now (codes .entry)) (now (physical .entry)) ⌝ }
 {
+    if codes.len() == 0 {
+        return;
+    }
+    let zero = zero_of(codes[0]);
     let mut i = 0usize;
     while i < codes.len() {
-        physical[i] = class_int_physical(codes[i]);
+        physical[i] = class_value(zero, codes[i]);
         i += 1usize;
     }
 }

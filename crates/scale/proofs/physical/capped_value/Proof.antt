@@ -1,19 +1,16 @@
-use borrow.Author.Tests.{lt-ltb, le-ltb}
+use Rattle.scale.proofs.Gaps.{capped-is}
 use borrow.Author.Needs.{needs}
 use Rattle.scale.proofs.physical.capped_value.Statement.{statement}
 use Rattle.scale.proofs.physical.capped_value.Tie as tie
 
-nan32-requires : tie.Need-nan32-requires
-nan32-requires c κs = search needs
+steps-requires : tie.Need-steps-requires
+steps-requires c κs = search needs
 
-open-value-requires : tie.Need-open-value-requires
-open-value-requires c κs = search needs
+gap-requires : tie.Need-gap-requires
+gap-requires c κs = search needs
 
 returns : tie.Need-returns
-returns c = simp (lt-ltb _ _ (c .before .if1 .taken)) (c .nan32 .ensures)
-
-returns-2 : tie.Need-returns-2
-returns-2 c = simp (le-ltb _ _ (c .before .if1 .left)) (c .open-value .ensures)
+returns c = capped-is _ _ (c .before .before .args .floor) (c .before .before .args .code) (c .before .steps .ensures) _ (search needs) (c .gap .ensures)
 
 pub capped-value-spec : {M : Type 1} → statement M
-capped-value-spec = tie.close (tie.spec nan32-requires open-value-requires returns returns-2)
+capped-value-spec = tie.close (tie.spec steps-requires gap-requires returns)

@@ -1,30 +1,39 @@
-use Rattle.scale.proofs.Mapped.{Mapped, mapped-first, mapped-turn, mapped-end}
+use Rattle.scale.proofs.Mapped.{Mapped, mapped-first, mapped-turn, mapped-end, mapped-none}
 use Rattle.scale.specs.Physical.{classValue}
 use lib.ListN.{length}
 use Prim.Native.Nat.{_-_}
 use native.Mathlib.Omega.{arith}
+use denote.Ref.{now}
 use borrow.Author.Needs.{needs}
 use Rattle.scale.proofs.physical.fill_class.Statement.{statement}
 use Rattle.scale.proofs.physical.fill_class.Tie as tie
 
 abbrev Inv-loop : tie.InvT-loop
-Inv-loop codes physical₀ i₀ physical i = Mapped (classValue) codes physical₀ physical i
+Inv-loop codes physical₀ zero i₀ physical i = Mapped classValue codes physical₀ physical i
 
 abbrev μ-loop : tie.MeasureT-loop
-μ-loop codes physical₀ i₀ physical i = length codes - i
+μ-loop codes physical₀ zero i₀ physical i = length codes - i
+
+returns : tie.Need-returns Inv-loop μ-loop
+returns c = let a = c .before .before .before .args in mapped-none classValue (now (a .codes)) _ (c .if1 .taken)
+
+shared-slice-read-zero-of : tie.Need-shared-slice-read-zero-of Inv-loop μ-loop
+shared-slice-read-zero-of c = search needs
+
+zero-of-requires : tie.Need-zero-of-requires Inv-loop μ-loop
+zero-of-requires c κs = search needs
 
 loop-holds : tie.Need-loop-holds Inv-loop μ-loop
 loop-holds c = mapped-first _ _ _ (search needs)
 
-mul-class-int-physical : tie.Need-mul-class-int-physical Inv-loop μ-loop
-mul-class-int-physical c = search needs
+mul-class-value : tie.Need-mul-class-value Inv-loop μ-loop
+mul-class-value c = search needs
 
-shared-slice-read-class-int-physical :
-    tie.Need-shared-slice-read-class-int-physical Inv-loop μ-loop
-shared-slice-read-class-int-physical c = search needs
+shared-slice-read-class-value : tie.Need-shared-slice-read-class-value Inv-loop μ-loop
+shared-slice-read-class-value c = search needs
 
-class-int-physical-requires : tie.Need-class-int-physical-requires Inv-loop μ-loop
-class-int-physical-requires c κs = search needs
+class-value-requires : tie.Need-class-value-requires Inv-loop μ-loop
+class-value-requires c κs = search needs
 
 mul-physical : tie.Need-mul-physical Inv-loop μ-loop
 mul-physical c = search needs
@@ -39,13 +48,13 @@ loop-less : tie.Need-loop-less Inv-loop μ-loop
 loop-less c = search needs
 
 loop-again : tie.Need-loop-again Inv-loop μ-loop
-loop-again c = mapped-turn (c .before .before .before .loop .inv) 0 _ (omega arith) (c .class-int-physical .ensures)
+loop-again c = mapped-turn (c .before .before .before .loop .inv) 0 _ (omega arith) (c .class-value .ensures)
 
 same-length : tie.Need-same-length Inv-loop μ-loop
 same-length c = search needs
 
-returns : tie.Need-returns Inv-loop μ-loop
-returns c = mapped-end (c .before .loop .inv) (c .loop-test .left)
+returns-2 : tie.Need-returns-2 Inv-loop μ-loop
+returns-2 c = mapped-end (c .before .loop .inv) (c .loop-test .left)
 
 pub fill-class-spec : {M : Type 1} → statement M
 fill-class-spec =
@@ -53,14 +62,17 @@ fill-class-spec =
     (tie.spec
     Inv-loop
     μ-loop
+    returns
+    shared-slice-read-zero-of
+    zero-of-requires
     loop-holds
-    mul-class-int-physical
-    shared-slice-read-class-int-physical
-    class-int-physical-requires
+    mul-class-value
+    shared-slice-read-class-value
+    class-value-requires
     mul-physical
     slice-write-physical
     add-i
     loop-less
     loop-again
     same-length
-    returns)
+    returns-2)
