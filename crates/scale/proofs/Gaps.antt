@@ -34,13 +34,13 @@ near : (num den n : ℕ) → 0 < den → n < 65536 → num ≡ n * den → round
 unfolding ofInt
 near num den n p small h =
     whole-unique binary32 (round binary32 false num den) (round binary32 false n 1) false n
-        (round-fits binary32 false num den)
-        (round-fits binary32 false n 1)
-        (whole-of (round binary32 false num den) num den n p h
-            (round-exact binary32 false num den n 149 p (lt-of-lt-of-le small (lit≤ tt))
-                (lt-of-lt-of-le (shl-lt 16 149 small) (pow-mono {i = 165} {j = 277} (lit≤ tt)))
-                (ap (λ (x : ℕ). x * 2 ^ 149) h ∙ mul-right-comm n den (2 ^ 149))))
-        (round-whole binary32 false n (le-of-lt (lt-of-lt-of-le small (lit≤ tt))))
+    (round-fits binary32 false num den)
+    (round-fits binary32 false n 1)
+    (whole-of (round binary32 false num den) num den n p h
+    (round-exact binary32 false num den n 149 p (lt-of-lt-of-le small (lit≤ tt))
+    (lt-of-lt-of-le (shl-lt 16 149 small) (pow-mono {i = 165} {j = 277} (lit≤ tt)))
+    (ap (λ (x : ℕ). x * 2 ^ 149) h ∙ mul-right-comm n den (2 ^ 149))))
+    (round-whole binary32 false n (le-of-lt (lt-of-lt-of-le small (lit≤ tt))))
 
 zero-is : f32 0 1 ≡ fin false 0 (pos 0)
 unfolding f32 round
@@ -57,11 +57,11 @@ plus-zero (inf t) n h v = absurd v
 plus-zero (fin true m e) n h v = absurd (not-negative (v .0))
 plus-zero (fin false m e) n h v =
     near (m * up e * 1 + 0 * 1 * down e) (down e * 1) n (mul-pos (down-pos e) (lit< tt)) h
-        (ap (λ (x : ℕ). m * up e * 1 + x * down e) (zero-mul 1)
-        ∙ ap (λ (x : ℕ). m * up e * 1 + x) (zero-mul (down e))
-        ∙ add-zero (m * up e * 1)
-        ∙ v .1
-        ∙ ap (λ (x : ℕ). n * x) (sym (mul-one (down e))))
+    (ap (λ (x : ℕ). m * up e * 1 + x * down e) (zero-mul 1)
+    ∙ ap (λ (x : ℕ). m * up e * 1 + x) (zero-mul (down e))
+    ∙ add-zero (m * up e * 1)
+    ∙ v .1
+    ∙ ap (λ (x : ℕ). n * x) (sym (mul-one (down e))))
 
 minus-itself : (x : Float) (n : ℕ) → HasValue x false n 1 → sub binary32 x x ≡ whole32 (pos 0)
 unfolding sub add sum neg
@@ -170,9 +170,9 @@ module _ (code floor : ℕ) {z : ℤ} (c : code < 65536) (f : floor < 65536) (e 
 pub test-is : (a b : ℕ) {z : ℤ} {t : Bool} → a < 65536 → b < 65536 → z ≡ pos b → ltZ (toZ w32 a) (toZ w32 (ofZ w32 z)) ≡ t → ltb a b ≡ t
 test-is a b {z} {t} h k e w =
     sym
-        (ap (λ (y : ℤ). ltZ (toZ w32 a) (toZ w32 (ofZ w32 y))) e
-        ∙ ap (λ (y : ℤ). ltZ y (toZ w32 b)) (toZ-pos w32 (lt-of-lt-of-le h (lit≤ tt)))
-        ∙ ap (λ (y : ℤ). ltZ (pos a) y) (toZ-pos w32 (lt-of-lt-of-le k (lit≤ tt))))
+    (ap (λ (y : ℤ). ltZ (toZ w32 a) (toZ w32 (ofZ w32 y))) e
+    ∙ ap (λ (y : ℤ). ltZ y (toZ w32 b)) (toZ-pos w32 (lt-of-lt-of-le h (lit≤ tt)))
+    ∙ ap (λ (y : ℤ). ltZ (pos a) y) (toZ-pos w32 (lt-of-lt-of-le k (lit≤ tt))))
     ∙ w
 
 -- ---- values
