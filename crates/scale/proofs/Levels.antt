@@ -1,16 +1,20 @@
 -- The table of sixteen levels, read at a code. Assumes nothing.
 use mathlib.Core.Path.{_≡_, refl, sym, ap, _∙_}
-use mathlib.Core.Bool.{Bool, true, false, cond}
+use mathlib.Core.Bool.{Bool, true, false, cond, _&&_, and-assoc, and-true}
 use mathlib.Core.List.{List, [], _∷_, map}
-use Prim.Native.Nat.{ℕ, zero, suc, _+_, _<_}
+use Prim.Native.Nat.{ℕ, zero, suc, _+_, _≤_, _<_}
+use native.Mathlib.Numerals.{add-one}
 use native.Mathlib.Nat.{not-suc-le-zero, le-of-suc-le-suc, add-zero, zero-add}
 use native.Mathlib.Omega.{arith}
 use lib.Dec.{ltb}
-use lib.ListN.{getD}
+use lib.ListN.{length, getD, drop}
 use lib.Ieee.{Float, nan}
-use borrow.Author.Tests.{ltb-true}
+use borrow.Author.Tests.{ltb-true, ltb-false, lt-ltb, le-ltb}
+use lib.Bits.{bitOr, bitAnd, and-le-l, and-le-r, or-lt, or-add-and}
+use lib.Seq.{drop-cons, drop-length}
+use Rattle.bytes.specs.Text.{all}
 use Rattle.scale.specs.Legacy.{levelAt, levelsOf, sixteen}
-use Rattle.scale.specs.Physical.{levelOf, valueOf}
+use Rattle.scale.specs.Physical.{hasLevel, levelOf, valueOf}
 use Rattle.scale.specs.declared.physical.Scaling.the-variants as Scaling
 
 -- n numbers from a on
@@ -37,3 +41,53 @@ levels-value t at post = λ i code. go code (ltb code 16) refl i
         → cond b (getD (map (levelAt t at post) sixteen) code nan) nan ≡ cond b (levelAt t at post code) nan
     go code true u = sixteen-at (levelAt t at post) nan code (ltb-true code 16 u)
     go code false u = refl
+
+-- ---- all codes at once
+
+-- two codes have levels exactly if their bits put together have
+pub both-have : (a b : ℕ) → hasLevel (bitOr a b) ≡ hasLevel a && hasLevel b
+both-have a b = go (ltb a 16) refl (ltb b 16) refl
+  where
+    go : (p : Bool) → ltb a 16 ≡ p → (q : Bool) → ltb b 16 ≡ q → ltb (bitOr a b) 16 ≡ p && q
+    go true s true t = lt-ltb (bitOr a b) 16 (or-lt 4 a b (ltb-true a 16 s) (ltb-true b 16 t))
+    go true s false t = le-ltb (bitOr a b) 16 (omega (arith, ltb-false b 16 t, or-add-and a b, and-le-l a b))
+    go false s q t = le-ltb (bitOr a b) 16 (omega (arith, ltb-false a 16 s, or-add-and a b, and-le-r a b))
+
+-- those before i have the bits, and the rest is still to be tested
+pub record Together (cs : List ℕ) (bits i : ℕ) : Type 0 where
+  pub place : i ≤ length cs
+  pub known : all hasLevel cs ≡ hasLevel bits && all hasLevel (drop i cs)
+
+pub together-first : (cs : List ℕ) → Together cs 0 0
+together-first cs = record { place = omega arith; known = refl }
+
+module _ {cs : List ℕ} {bits i : ℕ} (inv : Together cs bits i) where
+  pub together-turn : i < length cs → Together cs (bitOr bits (getD cs i 0)) (i + 1)
+  unfolding all
+  together-turn h =
+      let e : drop i cs ≡ getD cs i 0 ∷ drop (i + 1) cs = rw add-one (drop-cons cs i 0 h) in
+      record {
+        place = omega arith;
+        known =
+            inv .known
+            ∙ ap (λ (s : List ℕ). hasLevel bits && all hasLevel s) e
+            ∙ and-assoc (hasLevel bits) (hasLevel (getD cs i 0)) (all hasLevel (drop (i + 1) cs))
+            ∙ ap (λ (b : Bool). b && all hasLevel (drop (i + 1) cs)) (sym (both-have bits (getD cs i 0)));
+      }
+
+  pub together-end : length cs ≤ i → hasLevel bits ≡ all hasLevel cs
+  unfolding all
+  together-end h =
+      let e : i ≡ length cs = omega (arith, inv .place) in
+      sym (inv .known ∙ ap (λ (s : List ℕ). hasLevel bits && all hasLevel s) (ap (λ (k : ℕ). drop k cs) e ∙ drop-length cs) ∙ and-true (hasLevel bits))
+
+-- a code of those that have levels
+pub code-has : (cs : List ℕ) (i : ℕ) → all hasLevel cs ≡ true → i < length cs → hasLevel (getD cs i 0) ≡ true
+unfolding all
+code-has [] i e h = absurd (not-suc-le-zero h)
+code-has (x ∷ cs) i e h = go (hasLevel x) refl i h e
+  where
+    go : (b : Bool) → hasLevel x ≡ b → (i : ℕ) → i < suc (length cs) → b && all hasLevel cs ≡ true → hasLevel (getD (x ∷ cs) i 0) ≡ true
+    go true t zero h e = t
+    go true t (suc i) h e = code-has cs i e (le-of-suc-le-suc h)
+    go false t i h e = let z : _≡_ {A = ℕ} 0 1 = cc in absurd (omega arith)

@@ -1,7 +1,7 @@
 -- The physical value of a code under a scheme and the file's bytes: `physicalOf`. A value is minimum + (code - floor) × step.
 use Prim.Native.Nat.{ℕ, _+_, _-_, _≤_}
 use mathlib.Core.List.{List, [], _∷_, map, _++_}
-use mathlib.Core.Bool.{cond}
+use mathlib.Core.Bool.{Bool, cond}
 use lib.ListN.{length, getD, drop}
 use lib.IntN.{pos}
 use lib.Dec.{ltb, eqb}
@@ -58,14 +58,17 @@ abbrev pub classValue : ℕ → Float
 classValue code = cond (eqb code 0) nan (whole32 (pos code))
 
 -- the level of a code, of sixteen; there is none for a larger code
+abbrev pub hasLevel : ℕ → Bool
+hasLevel code = ltb code 16
+
 abbrev pub levelOf : List Float → ℕ → Float
-levelOf levels code = cond (ltb code 16) (getD levels code nan) nan
+levelOf levels code = cond (hasLevel code) (getD levels code nan) nan
 
 -- the value of a code once the scale fields are read. Halfword and float: codes below 2 are NaN
 unfoldable pub valueOf : Scaling → List ℕ → ℕ → Float
 valueOf (Scaling.Linear s) file code = openValue (s .«value_min») (s .«value_increment») 2 code
 valueOf (Scaling.Precip p) file code = precipValue p code
-valueOf (Scaling.Legacy k post) file code = cond (ltb code 16) (levelAt file k post code) nan
+valueOf (Scaling.Legacy k post) file code = cond (hasLevel code) (levelAt file k post code) nan
 valueOf Scaling.Class file code = classValue code
 
 abbrev pub valued : Result Scaling → List ℕ → ℕ → Float

@@ -6,16 +6,17 @@ use crate::scaling::PrecipScale;
 use bytes::error::Buffer;
 use bytes::error::Level3DecodeError;
 ghost use mathlib.Core.Path.{_≡_};
-ghost use mathlib.Core.Bool.{cond};
+ghost use mathlib.Core.Bool.{true, cond};
 ghost use Prim.Native.Nat.{_-_, _≤_};
 ghost use lib.ListN.{length};
 ghost use lib.IntN.{pos};
 ghost use lib.Dec.{ltb};
 ghost use lib.Ieee.{nan};
 ghost use Rattle.bytes.specs.Float.{whole32, f32};
+ghost use Rattle.bytes.specs.Text.{all};
 ghost use Rattle.bytes.specs.Result.{accepted, then, lent};
 ghost use Rattle.scale.specs.Pdb.{thresholdPlace};
-ghost use Rattle.scale.specs.Physical.{openValue, cappedValue, classValue, levelOf, precipValue, valueOf, filled, scaleFields, declaredScale, fillOf, Ready};
+ghost use Rattle.scale.specs.Physical.{openValue, cappedValue, classValue, hasLevel, levelOf, precipValue, valueOf, filled, scaleFields, declaredScale, fillOf, Ready};
 ghost use Rattle.scale.specs.Outcome.{linearOf, precipOf, scalingOf, declaredScaleOf, filledOf};
 
 // How raw codes are coded.
@@ -194,13 +195,12 @@ fn class_value(zero: f32, code: u16) -> f32
     code as f32 + gap(zero, code, 1)
 }
 
-// The level of a code, of the sixteen there are. A level is read at every code, so that nothing but the value depends on the test.
+// The level of a code, of the sixteen there are.
 fn level_of(levels: &[f32; 16], code: u16) -> f32
     ensures { λ r. ⌜ r ≡ levelOf (now (levels .entry)) code ⌝ }
 {
-    let level = levels[(code % 16) as usize];
     if code < 16 {
-        level
+        levels[code as usize]
     } else {
         bytes::float::nan32()
     }
@@ -236,7 +236,31 @@ fn fill_capped(min: f32, step: f32, floor: u16, top: u16, codes: &[u16], physica
     }
 }
 
-fn fill_levels(levels: &[f32; 16], codes: &[u16], physical: &mut [f32])
+// Whether every code has a level. The codes' bits are put together and tested once, so that the loop has no test.
+fn have_levels(codes: &[u16]) -> bool
+    ensures { λ r. ⌜ r ≡ all hasLevel (now (codes .entry)) ⌝ }
+{
+    let mut bits = 0u16;
+    let mut i = 0usize;
+    while i < codes.len() {
+        bits = bits | codes[i];
+        i += 1usize;
+    }
+    bits < 16
+}
+
+fn fill_known_levels(levels: &[f32; 16], codes: &[u16], physical: &mut [f32])
+    requires { ⌜ (all hasLevel (now codes) ≡ true) × (length (now codes) ≤ length (now physical)) ⌝ }
+    ensures { λ _. ⌜ now (physical .exit) ≡ filled (levelOf (now (levels .entry))) (now (codes .entry)) (now (physical .entry)) ⌝ }
+{
+    let mut i = 0usize;
+    while i < codes.len() {
+        physical[i] = levels[codes[i] as usize];
+        i += 1usize;
+    }
+}
+
+fn fill_any_levels(levels: &[f32; 16], codes: &[u16], physical: &mut [f32])
     requires { ⌜ length (now codes) ≤ length (now physical) ⌝ }
     ensures { λ _. ⌜ now (physical .exit) ≡ filled (levelOf (now (levels .entry))) (now (codes .entry)) (now (physical .entry)) ⌝ }
 {
@@ -244,6 +268,17 @@ fn fill_levels(levels: &[f32; 16], codes: &[u16], physical: &mut [f32])
     while i < codes.len() {
         physical[i] = level_of(levels, codes[i]);
         i += 1usize;
+    }
+}
+
+fn fill_levels(levels: &[f32; 16], codes: &[u16], physical: &mut [f32])
+    requires { ⌜ length (now codes) ≤ length (now physical) ⌝ }
+    ensures { λ _. ⌜ now (physical .exit) ≡ filled (levelOf (now (levels .entry))) (now (codes .entry)) (now (physical .entry)) ⌝ }
+{
+    if have_levels(codes) {
+        fill_known_levels(levels, codes, physical);
+    } else {
+        fill_any_levels(levels, codes, physical);
     }
 }
 

@@ -4,8 +4,8 @@ use lib.ListN.{length}
 use Prim.Native.Nat.{_-_}
 use native.Mathlib.Omega.{arith}
 use borrow.Author.Needs.{needs}
-use Rattle.scale.proofs.physical.fill_levels.Statement.{statement}
-use Rattle.scale.proofs.physical.fill_levels.Tie as tie
+use Rattle.scale.proofs.physical.fill_any_levels.Statement.{statement}
+use Rattle.scale.proofs.physical.fill_any_levels.Tie as tie
 
 abbrev Inv-loop : tie.InvT-loop
 Inv-loop levels codes physical₀ i₀ physical i = Mapped (levelOf levels) codes physical₀ physical i
@@ -46,8 +46,8 @@ same-length c = search needs
 returns : tie.Need-returns Inv-loop μ-loop
 returns c = mapped-end (c .before .loop .inv) (c .loop-test .left)
 
-pub fill-levels-spec : {M : Type 1} → statement M
-fill-levels-spec =
+pub fill-any-levels-spec : {M : Type 1} → statement M
+fill-any-levels-spec =
     tie.close
     (tie.spec
     Inv-loop
