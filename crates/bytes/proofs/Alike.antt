@@ -4,7 +4,7 @@ use native.Mathlib.Numerals.{add-one}
 use native.Mathlib.Omega.{arith}
 use mathlib.Core.List.{List, [], _∷_}
 use mathlib.Core.Path.{_≡_, refl, sym, ap, ap₂, _∙_}
-use mathlib.Core.Bool.{Bool, true, false, _&&_}
+use mathlib.Core.Bool.{true, false, _&&_, and-false}
 use lib.ListN.{length, getD, drop}
 use lib.Seq.{drop-cons, drop-length}
 use lib.Dec.{eqb}
@@ -16,10 +16,6 @@ pub record Alike (a b : List ℕ) (i : ℕ) : Type 0 where
   pub within : i ≤ length a
   pub long : length a ≡ length b
   pub left : same (drop i a) (drop i b) ≡ same a b
-
-and-false : (b : Bool) → b && false ≡ false
-and-false true = refl
-and-false false = refl
 
 pub unlike : (a b : List ℕ) → (length a ≡ length b → ⊥) → false ≡ same a b
 unfolding same

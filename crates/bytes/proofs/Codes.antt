@@ -23,7 +23,7 @@ climbs [] = true
 climbs (x ∷ []) = true
 climbs (x ∷ y ∷ s) = ltb x y && climbs (y ∷ s)
 
-both : (a b : Bool) → a && b ≡ true → (a ≡ true) × (b ≡ true)
+pub both : (a b : Bool) → a && b ≡ true → (a ≡ true) × (b ≡ true)
 both true b h = (refl, h)
 both false b h = let z : _≡_ {A = ℕ} 0 1 = cc in absurd (omega arith)
 

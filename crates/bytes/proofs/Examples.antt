@@ -5,7 +5,7 @@ use mathlib.Core.Bool.{true, false}
 use lib.ListN.{length}
 use lib.IntN.{pos, negsuc}
 use lib.Ieee.{nan, inf, neg, ofBits}
-use Rattle.bytes.specs.Bytes.{u16At, u32At, i16At, i32At, signed, among, readU16, readI32}
+use Rattle.bytes.specs.Bytes.{u16At, u32At, i16At, i32At, signed, ifInside, readU16, readI32}
 use Rattle.bytes.specs.Float.{f32, f32At}
 use Rattle.bytes.specs.Products.{codes, known}
 use Rattle.bytes.specs.Text.{member}
@@ -21,7 +21,7 @@ pub record Reads : Type 0 where
   pub af1f : i16At (0xAF ∷ 0x1F ∷ []) 0 ≡ negsuc 20704
 
 pub reads : Reads
-unfolding among u16At u32At i16At i32At signed
+unfolding ifInside u16At u32At i16At i32At signed
 reads = record { half = refl; past = refl; far-past = refl; least = refl; minus-one = refl; af1f = refl }
 
 pub record Floats : Type 0 where

@@ -5,6 +5,7 @@ pub mod Walks
 pub mod Ends
 pub mod Alike
 pub mod Parts
+pub mod Results
 pub mod Readings
 pub mod Runs
 pub mod Examples

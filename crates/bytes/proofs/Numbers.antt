@@ -7,7 +7,7 @@ use lib.ListN.{length, List·getD-eq-default}
 use mir.Syntax.{Width}
 use mir.Val.{toZ, hbits, bits}
 use borrow.Author.Tests.{le-leb, lt-leb, lt-ltb, le-ltb}
-use Rattle.bytes.specs.Bytes.{u16At, u32At, signed, among}
+use Rattle.bytes.specs.Bytes.{u16At, u32At, signed, ifInside}
 
 -- a byte past the end counts 0
 pub past : (s : List ℕ) (at : ℕ) → length s ≤ at → 0 ≡ u16At s at
@@ -30,11 +30,11 @@ high w half top n p q r h k =
     let e : top - (top - n) ≡ n = omega arith in
     rw (e, p, q, r) (simp (le-ltb n half h, lt-ltb n (suc top) k))
 
--- a choice by `among`, where r bytes are left: the n bytes are there, or are not
-pub is-in : {A : Type 0} (s : List ℕ) (i n r : ℕ) (a b : A) → 0 < n → r ≡ length s - i → n ≤ r → a ≡ among s i n a b
-unfolding among
+-- a choice by `ifInside`, where r bytes are left: the n bytes are there, or are not
+pub is-in : {A : Type 0} (s : List ℕ) (i n r : ℕ) (a b : A) → 0 < n → r ≡ length s - i → n ≤ r → a ≡ ifInside s i n a b
+unfolding ifInside
 is-in s i n r a b z e h = simp (le-leb (i + n) (length s) (omega arith))
 
-pub is-out : {A : Type 0} (s : List ℕ) (i n r : ℕ) (a b : A) → r ≡ length s - i → r < n → b ≡ among s i n a b
-unfolding among
+pub is-out : {A : Type 0} (s : List ℕ) (i n r : ℕ) (a b : A) → r ≡ length s - i → r < n → b ≡ ifInside s i n a b
+unfolding ifInside
 is-out s i n r a b e h = simp (lt-leb (i + n) (length s) (omega arith))

@@ -1,5 +1,4 @@
--- Laws of readings, for the proofs of code: one reading after another, a test, a part of the body read from its own position 0, and the
--- walk beside the run. Assumes nothing.
+-- Laws of walks, for the proofs of code: one reading after another, a test, a reading that passed, a part of a slice. Assumes nothing.
 use Prim.Native.Nat.{ℕ, zero, suc, _+_, _-_, _≤_}
 use native.Mathlib.Omega.{arith}
 use mathlib.Core.List.{List, [], _∷_}
@@ -87,19 +86,6 @@ module _ {W A B : Type 0} (f : A → Read W B) (t : Flat A) (s : List ℕ) (p : 
       go (passed a m) h k = record { value = a; middle = m; first = sym h; second = k }
       go (halted x m) h k = let z : _≡_ {A = ℕ} 0 1 = cc in absurd (omega arith)
 
-pub passed-check : {W A : Type 0} (b : Bool) (x : Refusal) (u : Read W A) (s : List ℕ) (p : ℕ) {a : A} {q : ℕ} → passed a q ≡ walk (refuse-if b x >> u) s p
-    → (b ≡ false) × (passed a q ≡ walk u s p)
-unfolding _>>_
-passed-check b x u s p {a} {q} e = go b refl (e ∙ walk-check b x (λ _. u) s p)
-  where
-    go : (c : Bool) → b ≡ c → passed a q ≡ cond c (halted x p) (walk u s p) → (b ≡ false) × (passed a q ≡ walk u s p)
-    go true h k = let z : _≡_ {A = ℕ} 0 1 = cc in absurd (omega arith)
-    go false h k = (h, k)
-
-pub walk-give : {A : Type 0} (a : A) (s : List ℕ) (p : ℕ) → walk {W = ⊥} (give a) s p ≡ passed a p
-unfolding walk
-walk-give a s p = refl
-
 -- the same where the value between them is not used
 pub parts-by : {W A B : Type 0} (t : Flat A) (u : Read W B) (s : List ℕ) (p : ℕ) {b : B} {q : ℕ} → passed b q ≡ walk (t >> u) s p → Parts (λ (a : A). u) t s p b q
 unfolding _>>_
@@ -109,3 +95,12 @@ parts-by t u s p e = parts (λ a. u) t s p e
 pub past-test : {A : Type 0} (b : Bool) (x : Refusal) (m : ℕ) (e : Ended A) {a : A} {q : ℕ} → passed a q ≡ cond b (halted x m) e → (b ≡ false) × (passed a q ≡ e)
 past-test true x m e h = let z : _≡_ {A = ℕ} 0 1 = cc in absurd (omega arith)
 past-test false x m e h = (refl, h)
+
+pub passed-check : {W A : Type 0} (b : Bool) (x : Refusal) (u : Read W A) (s : List ℕ) (p : ℕ) {a : A} {q : ℕ} → passed a q ≡ walk (refuse-if b x >> u) s p
+    → (b ≡ false) × (passed a q ≡ walk u s p)
+unfolding _>>_
+passed-check b x u s p e = past-test b x p _ (e ∙ walk-check b x (λ _. u) s p)
+
+pub walk-give : {A : Type 0} (a : A) (s : List ℕ) (p : ℕ) → walk {W = ⊥} (give a) s p ≡ passed a p
+unfolding walk
+walk-give a s p = refl

@@ -2,16 +2,16 @@
 -- radial's data, so that its run is its walk. Assumes nothing.
 use Prim.Native.Nat.{ℕ, _+_, _-_, _*_}
 use native.Mathlib.Omega.{arith}
-use mathlib.Core.List.{List, [], _∷_, _++_, append-nil}
+use mathlib.Core.List.{List, [], _∷_, _++_}
 use mathlib.Core.Bool.{Bool, true, false, cond}
 use mathlib.Core.Path.{_≡_, refl, sym, ap, ap₂, _∙_, fun-ext}
-use lib.ListN.{length, getD, take, drop, length-drop}
+use lib.ListN.{length, take, drop, length-drop}
 use lib.Seq.{slice, getD-drop, drop-drop}
 use Rattle.bytes.specs.Bytes.{u16At, u32At}
 use Rattle.bytes.specs.Refusal.{Refusal}
 use Rattle.bytes.specs.Result.{Result, accepted, refused, then}
-use Rattle.bytes.specs.Reading.{Read, Flat, give, stop, left, skip, number, data-row, within, Width, half, word, size, valueAt, Given, more, after-row, run, Ended, passed, halted, onward, outcome, past-row, walk, _>>=_, _>>_, refuse-if, remaining, u16, u32, unread, radial-data}
-use Rattle.bytes.proofs.Readings.{drop-take, walk-check, then-passed, then-halted, parts}
+use Rattle.bytes.specs.Reading.{Read, Flat, give, stop, left, skip, number, data-row, within, Width, half, word, size, valueAt, Given, more, after-row, run, Ended, passed, halted, reached, past-row, walk, _>>=_, _>>_, refuse-if, remaining, u16, u32, unread, radial-data}
+use Rattle.bytes.proofs.Readings.{drop-take, walk-check, then-passed, parts}
 
 -- ---- one reading after another
 
@@ -68,14 +68,7 @@ module _ {W A B : Type 0} (f : A → Read W B) where
 
 -- ---- the walk beside the run
 
-abbrev pub value-of : {A : Type 0} → Result (Given A) → Result A
-value-of r = then r λ g. accepted (g .value)
-
 -- the value and the position after it
-abbrev pub reached : {A : Type 0} → Ended A → Result (A × ℕ)
-reached (passed a p) = accepted (a, p)
-reached (halted x p) = refused x
-
 abbrev pub ends-at : {A : Type 0} → Result (Given A) → Result (A × ℕ)
 ends-at r = then r λ g. accepted (g .value, g .next)
 

@@ -1,4 +1,5 @@
--- Big-endian numbers in a list of bytes (bytes.rs). A byte past the end counts 0; who refuses it says so.
+-- Big-endian numbers in a list of bytes (bytes.rs). A byte past the end counts 0; where that is a refusal, the caller's
+-- definition says so.
 use Prim.Native.Nat.{ℕ, _+_, _*_}
 use mathlib.Core.List.{List}
 use mathlib.Core.Bool.{cond}
@@ -7,8 +8,6 @@ use lib.IntN.{ℤ, pos, _-ℤ_}
 use lib.Dec.{ltb, leb}
 use Rattle.bytes.specs.declared.bytes.U16Read.{U16Read}
 use Rattle.bytes.specs.declared.bytes.U16Read.the-variants as U16
-use Rattle.bytes.specs.declared.bytes.U32Read.{U32Read}
-use Rattle.bytes.specs.declared.bytes.U32Read.the-variants as U32
 use Rattle.bytes.specs.declared.bytes.I16Read.{I16Read}
 use Rattle.bytes.specs.declared.bytes.I16Read.the-variants as I16
 use Rattle.bytes.specs.declared.bytes.I32Read.{I32Read}
@@ -32,17 +31,14 @@ unfoldable pub i32At : List ℕ → ℕ → ℤ
 i32At s i = signed 2147483648 (u32At s i)
 
 -- a where n bytes from place i on are there, else b
-unfoldable pub among : {A : Type 0} → List ℕ → ℕ → ℕ → A → A → A
-among s i n a b = cond (leb (i + n) (length s)) a b
+unfoldable pub ifInside : {A : Type 0} → List ℕ → ℕ → ℕ → A → A → A
+ifInside s i n a b = cond (leb (i + n) (length s)) a b
 
 abbrev pub readU16 : List ℕ → ℕ → U16Read
-readU16 s i = among s i 2 (U16.Value (u16At s i)) U16.Nothing
-
-abbrev pub readU32 : List ℕ → ℕ → U32Read
-readU32 s i = among s i 4 (U32.Value (u32At s i)) U32.Nothing
+readU16 s i = ifInside s i 2 (U16.Value (u16At s i)) U16.Nothing
 
 abbrev pub readI16 : List ℕ → ℕ → I16Read
-readI16 s i = among s i 2 (I16.Value (i16At s i)) I16.Nothing
+readI16 s i = ifInside s i 2 (I16.Value (i16At s i)) I16.Nothing
 
 abbrev pub readI32 : List ℕ → ℕ → I32Read
-readI32 s i = among s i 4 (I32.Value (i32At s i)) I32.Nothing
+readI32 s i = ifInside s i 4 (I32.Value (i32At s i)) I32.Nothing

@@ -1,6 +1,6 @@
 -- A small language for readings of bytes. A reading says piece by piece what is read, what is passed over unread and what is a radial's
--- data, so one text gives the answer (`run`), the position where it ends (`walk`), the places of the radials' data (`frames`) and the
--- unread bytes (`Unread`). What follows a radial's data does not receive the row that they make.
+-- data, so one text gives the answer (`run`), the position where it ends (`walk`), the places of the radials' data (`frames`), the unread
+-- bytes (`Unread`) and the pieces with their sizes (`pieces`). What follows a radial's data does not receive the row that they make.
 use Prim.Native.Nat.{ℕ, _+_, _-_, _≤_, _<_, min}
 use mathlib.Core.List.{List, [], _∷_}
 use mathlib.Core.Logic.{_⊎_}
@@ -33,7 +33,7 @@ pub data Read (W A : Type 0) : Type 0 where
   left : (ℕ → Read W A) → Read W A
   -- so many bytes, unread
   skip : ℕ → Read W A → Read W A
-  -- a number of two or four bytes
+  -- a number of two or four bytes. A byte past the end counts 0, so a reading asks first how many are left
   number : Width → (ℕ → Read W A) → Read W A
   -- so many bytes that are a radial's data, and the row that they make or the radial's refusal
   data-row : ℕ → (List ℕ → Result (List ℕ)) → Read W A → Read W A
@@ -124,6 +124,11 @@ onward (halted x p) f = halted x p
 abbrev pub outcome : {A : Type 0} → Ended A → Result A
 outcome (passed a p) = accepted a
 outcome (halted x p) = refused x
+
+-- its answer, and the position after the value
+abbrev pub reached : {A : Type 0} → Ended A → Result (A × ℕ)
+reached (passed a p) = accepted (a, p)
+reached (halted x p) = refused x
 
 abbrev pub past-row : {A : Type 0} → Result (List ℕ) → ℕ → Ended A → Ended A
 past-row (accepted codes) p e = e

@@ -1,4 +1,5 @@
--- Lists of bytes as text: whether two are equal, whether all bytes pass a test, what is left once an end is trimmed.
+-- Lists of bytes as text: whether a byte is in one, whether two are equal, whether all bytes pass a test, how many at the front do, what is
+-- left once an end is trimmed.
 use Prim.Native.Nat.{ℕ, suc}
 use mathlib.Core.List.{List, [], _∷_}
 use mathlib.Core.Bool.{Bool, true, false, cond, _&&_, _||_}

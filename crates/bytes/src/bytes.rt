@@ -3,15 +3,10 @@
 ghost use mathlib.Core.Path.{_≡_};
 ghost use Prim.Native.Nat.{_-_, _<_};
 ghost use lib.ListN.{getD};
-ghost use Rattle.bytes.specs.Bytes.{u16At, u32At, i16At, i32At, signed, readU16, readU32, readI16, readI32};
+ghost use Rattle.bytes.specs.Bytes.{u16At, u32At, i16At, i32At, signed, readU16, readI16, readI32};
 
 pub enum U16Read {
     Value(u16),
-    Nothing,
-}
-
-pub enum U32Read {
-    Value(u32),
     Nothing,
 }
 
@@ -106,15 +101,6 @@ pub fn read_u16_be(buf: &[u8], off: usize) -> U16Read
         return U16Read::Nothing;
     }
     U16Read::Value(u16_at(buf, off))
-}
-
-pub fn read_u32_be(buf: &[u8], off: usize) -> U32Read
-    ensures { λ r. ⌜ r ≡ readU32 (now (buf .entry)) off ⌝ }
-{
-    if remaining(buf.len(), off) < 4 {
-        return U32Read::Nothing;
-    }
-    U32Read::Value(u32_at(buf, off))
 }
 
 pub fn read_i16_be(buf: &[u8], off: usize) -> I16Read

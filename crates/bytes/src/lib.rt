@@ -1,4 +1,4 @@
-// What every layer above stands on: big-endian reads, the refusals, the known message codes, f32 of its bits.
+// What every layer above stands on: big-endian reads, byte strings, the refusals, the known message codes, f32 of its bits.
 pub mod bytes;
 pub mod error;
 pub mod float;

@@ -3,28 +3,25 @@ use Prim.Native.Nat.{ℕ, zero, suc, _+_, _-_, _≤_, _<_, min}
 use native.Mathlib.Omega.{arith}
 use mathlib.Core.List.{List, [], _∷_}
 use mathlib.Core.Path.{_≡_, refl, sym, ap, _∙_}
-use mathlib.Core.Bool.{Bool, true, false, cond, _&&_}
+use mathlib.Core.Bool.{Bool, true, false, cond}
 use lib.Dec.{eqb}
 use lib.ListN.{length, take, drop, length-take, length-drop}
 use lib.Seq.{take-take, drop-drop, take-length}
 use borrow.Author.Tests.{eqb-true}
 use Rattle.bytes.specs.Result.{accepted}
 use Rattle.bytes.specs.Text.{all, leading, trimFront}
+use Rattle.bytes.proofs.Codes.{both}
+use Rattle.bytes.proofs.Readings.{drop-take}
 use Rattle.bytes.proofs.Ends.{drop-leading, leading-within, trim-front, trim-within}
 use Rattle.head.specs.Header.{blank, alphanumeric, cut, firstToken, isToken, trimmed, token, firstOf, headerAt, messageHeader}
 use Rattle.head.proofs.Cut.{Pieces, last, more, pieces}
 use Rattle.head.proofs.Token.{token-here, token-past}
 
-both : (a b : Bool) → a && b ≡ true → (a ≡ true) × (b ≡ true)
-both true b e = (refl, e)
-both false b e = let z : _≡_ {A = ℕ} 0 1 = cc in absurd (omega arith)
-
 -- a part of a front is a part of the whole
 part-in : (j m n : ℕ) (t : List ℕ) → j + m ≤ n → take m (drop j (take n t)) ≡ take m (drop j t)
-part-in zero m n t h = take-take m n t (omega arith)
-part-in (suc j) m zero t h = absurd (omega arith)
-part-in (suc j) m (suc n) [] h = refl
-part-in (suc j) m (suc n) (x ∷ t) h = part-in j m n t (omega arith)
+part-in j m n t h =
+    let e : j + (n - j) ≡ n = omega arith in
+    ap (λ i. take m (drop j (take i t))) (sym e) ∙ ap (take m) (drop-take j (n - j) t) ∙ take-take m (n - j) (drop j t) (omega arith)
 
 -- the token of a piece
 module _ (p : List ℕ) (e : isToken (trimmed p) ≡ true) where

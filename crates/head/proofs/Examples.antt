@@ -11,7 +11,7 @@ use Rattle.bytes.specs.Text.{member, same, all, leading, trimFront, trimEnd}
 use Rattle.bytes.specs.Bytes.{u16At, u32At, i16At, i32At, signed}
 use Rattle.bytes.specs.Float.{f64}
 use Rattle.bytes.specs.Products.{codes, known}
-use Rattle.head.specs.Header.{blank, alphanumeric, cut, separator, firstToken, token, firstOf, headerAt, messageHeader, scanTime}
+use Rattle.head.specs.Header.{blank, alphanumeric, cut, separator, firstToken, token, product, site, firstOf, headerAt, messageHeader, scanTime}
 use Rattle.head.specs.Pdb.{fieldAt, hwI16, hwU16, hwI32, pdbFields}
 
 -- P13: day 1, second 0
@@ -64,9 +64,19 @@ abbrev n0blot : List ℕ
 n0blot = 78 ∷ 48 ∷ 66 ∷ 76 ∷ 79 ∷ 84 ∷ []
 
 -- a line before it that is no token, and blanks at both ends
-pub second-line : token ((83 ∷ 68 ∷ 85 ∷ 83 ∷ 53 ∷ 51 ∷ 32 ∷ 75 ∷ []) ++ separator ++ (32 ∷ 9 ∷ []) ++ n0blot ++ (12 ∷ 10 ∷ []) ++ separator) ≡ accepted 13
+abbrev two-lines : List ℕ
+two-lines = (83 ∷ 68 ∷ 85 ∷ 83 ∷ 53 ∷ 51 ∷ 32 ∷ 75 ∷ []) ++ separator ++ (32 ∷ 9 ∷ []) ++ n0blot ++ (12 ∷ 10 ∷ []) ++ separator
+
+pub second-line : token two-lines ≡ accepted 13
 unfolding token cut firstToken same blank alphanumeric member all leading trimFront trimEnd
 second-line = refl
+
+-- N0B, LOT
+pub its-product : product two-lines 13 ≡ 78 ∷ 48 ∷ 66 ∷ []
+its-product = refl
+
+pub its-site : site two-lines 13 ≡ 76 ∷ 79 ∷ 84 ∷ []
+its-site = refl
 
 -- CR CR CR LF: the separator is at the second CR, and the first is trimmed
 pub three-crs : cut (65 ∷ 13 ∷ 13 ∷ 13 ∷ 10 ∷ 66 ∷ []) ≡ (65 ∷ 13 ∷ []) ∷ (66 ∷ []) ∷ []

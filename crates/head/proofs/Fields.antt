@@ -2,12 +2,12 @@
 use Prim.Native.Nat.{ℕ, _+_, _*_, _-_, _≤_, _<_}
 use native.Mathlib.Omega.{arith}
 use mathlib.Core.List.{[], _∷_}
-use mathlib.Core.Path.{_≡_, refl, ap}
+use mathlib.Core.Path.{_≡_, refl}
 use mathlib.Core.Bool.{Bool, true, false, _||_}
 use lib.Dec.{eqb, ltb}
 use borrow.Author.Tests.{lt-ltb, le-ltb, eq-eqb, ne-eqb, ltb-false}
 use Rattle.bytes.specs.Refusal.{kind, nat}
-use Rattle.bytes.specs.Result.{Result, accepted, refused, refuse, then}
+use Rattle.bytes.specs.Result.{accepted, refused, refuse}
 use Rattle.head.specs.Pdb.{fieldAt}
 
 module _ (len block i width : ℕ) where
@@ -37,7 +37,3 @@ field-inside len block i width {k} e = go (eqb i 0 || ltb len (block + 2 * (i - 
     go false h q =
         let j : block + 2 * (i - 1) ≡ k = cc in
         omega (arith, ltb-false len (block + 2 * (i - 1) + width) (fits (eqb i 0) _ h))
-
--- what follows a reading
-pub then-by : {A B : Type 0} {r q : Result A} (f : A → Result B) → r ≡ q → then r f ≡ then q f
-then-by f e = ap (λ x. then x f) e

@@ -1,10 +1,11 @@
 -- header.rs. The AWIPS token: "first 128 bytes, cut at CR CR LF left to right, space, tab, LF, FF and CR trimmed at both ends, first
--- piece of six alphanumerics". The message header: "offsets from 0 below min(length, 128) - 20, first known code with -1 eighteen bytes
--- on". The scan time: "(days - 1) × 86,400 + seconds; more than 86,400 ahead of the clock is refused".
+-- piece of six alphanumerics, as 3 + 3". The message header: "offsets from 0 below min(length, 128) - 20, first known code with -1
+-- eighteen bytes on". The scan time: "(days - 1) × 86,400 + seconds; more than 86,400 ahead of the clock is refused".
 use Prim.Native.Nat.{ℕ, zero, suc, _+_, _*_, _-_, _^_, min}
 use mathlib.Core.List.{List, [], _∷_}
 use mathlib.Core.Bool.{Bool, false, cond, _&&_, _||_}
 use lib.ListN.{length, take}
+use lib.Seq.{slice}
 use lib.Dec.{eqb, leb, ltb}
 use lib.IntN.{ℤ, pos, negsuc}
 use Rattle.bytes.specs.Refusal.{kind, nat, whole}
@@ -60,6 +61,13 @@ firstToken at (p ∷ ps) = cond (isToken (trimmed p)) (accepted (at + leading bl
 unfoldable pub token : List ℕ → Result ℕ
 token file = firstToken 0 (cut (take 128 file))
 
+-- the token at place k "as 3 + 3": its product and its site
+abbrev pub product : List ℕ → ℕ → List ℕ
+product file k = slice k (k + 3) file
+
+abbrev pub site : List ℕ → ℕ → List ℕ
+site file k = slice (k + 3) (k + 6) file
+
 -- the first of `count` numbers from n on that passes the test
 unfoldable pub firstOf : (ℕ → Bool) → ℕ → ℕ → Result ℕ
 firstOf p n zero = refused (kind 2 [])
@@ -76,7 +84,7 @@ headerAt file off = known (i16At file off) && isMinusOne (i16At file (off + 18))
 unfoldable pub messageHeader : List ℕ → Result ℕ
 messageHeader file = firstOf (headerAt file) 0 (min (length file) 128 - 20)
 
--- the second of a day's second; day 1 is 1970-01-01
+-- the seconds since 1970 at second n of a day; day 1 is 1970-01-01
 abbrev pub secondOf : ℕ → ℕ → ℕ
 secondOf days n = (days - 1) * 86400 + n
 

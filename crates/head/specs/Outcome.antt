@@ -2,15 +2,15 @@
 use Prim.Native.Nat.{ℕ}
 use mathlib.Core.List.{List}
 use mathlib.Core.Bool.{cond}
+use lib.IntN.{ℤ}
+use Rattle.bytes.specs.Refusal.{refusalOf}
+use Rattle.bytes.specs.Result.{Result, accepted, refused}
 use Rattle.bytes.specs.Text.{leading}
 use Rattle.head.specs.Header.{blank, isToken, trimmed}
 use Rattle.head.specs.declared.header.Found.{Found}
 use Rattle.head.specs.declared.header.Found.the-variants as Found
-use Rattle.bytes.specs.Result.{Result, accepted, refused}
-use Rattle.bytes.specs.Refusal.{refusalOf}
 use Rattle.head.specs.declared.header.Place.{Place}
 use Rattle.head.specs.declared.header.Place.the-variants as Place
-use lib.IntN.{ℤ}
 use Rattle.head.specs.declared.header.TimeRead.{TimeRead}
 use Rattle.head.specs.declared.header.TimeRead.the-variants as TimeRead
 use Rattle.head.specs.declared.pdb.I16Field.{I16Field}

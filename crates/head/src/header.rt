@@ -1,12 +1,14 @@
-// The AWIPS token of the text head, and the message header.
+// The AWIPS token of the text head, the message header, and the scan time.
 use bytes::error::Level3DecodeError;
 use bytes::products::is_known_message_code;
 ghost use mathlib.Core.Path.{_≡_};
-ghost use Prim.Native.Nat.{ℕ, _+_, _-_, _≤_, _<_, min};
+ghost use Prim.Native.Nat.{_-_, _<_, min};
 ghost use lib.ListN.{length};
 ghost use Rattle.bytes.specs.Text.{leading, trimEnd, all};
 ghost use Rattle.head.specs.Header.{blank, alphanumeric, between, cut, first, firstToken, token, headerAt, messageHeader, scanTime};
 ghost use Rattle.head.specs.Outcome.{place, time, tokenIn};
+
+const MAX_SCAN_SKEW_SECONDS: u64 = 86400;
 
 pub enum Place {
     At(usize),
@@ -14,7 +16,7 @@ pub enum Place {
 }
 
 // Where a piece has a token, counted from the piece's start.
-pub enum Found {
+enum Found {
     At(usize),
     Nothing,
 }
@@ -204,11 +206,12 @@ pub fn scan_time(days: u16, seconds: i32, clock: u64) -> TimeRead
     if days == 0 {
         return TimeRead::Refused(Level3DecodeError::ImplausibleScanTime { days, seconds });
     }
+    // above 2^40
     if 1099511627776 < clock {
         return TimeRead::Refused(Level3DecodeError::ClockOutOfRange);
     }
     let when = (days as u64 - 1) * 86400 + seconds as u64;
-    if clock + 86400 < when {
+    if clock + MAX_SCAN_SKEW_SECONDS < when {
         return TimeRead::Refused(Level3DecodeError::ScanTimeTooFarAhead {
             seconds: when - clock,
         });

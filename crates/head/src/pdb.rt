@@ -2,7 +2,6 @@
 use crate::header::Place;
 use bytes::error::Level3DecodeError;
 ghost use mathlib.Core.Path.{_≡_};
-ghost use lib.ListN.{length};
 ghost use Rattle.head.specs.Pdb.{fieldAt, hwI16, hwU16, hwI32, hwPair, thousandths, tenths, metres, pdbFields};
 ghost use Rattle.head.specs.Outcome.{place, i16Of, u16Of, i32Of, pairOf, fieldsOf};
 

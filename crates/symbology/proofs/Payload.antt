@@ -13,14 +13,14 @@ use lib.Ieee.{Float}
 use Rattle.bytes.specs.Refusal.{Refusal, refusalOf, kind, nat}
 use Rattle.bytes.specs.declared.error.Level3DecodeError.{Level3DecodeError}
 use Rattle.bytes.specs.Result.{Result, accepted, refused, then}
-use Rattle.bytes.specs.Reading.{Read, Flat, give, _>>=_, _>>_, remaining, refuse-if, run, Given, Ended, passed, halted, onward, walk}
+use Rattle.bytes.specs.Reading.{Read, Flat, give, _>>=_, _>>_, remaining, refuse-if, run, Given, Ended, passed, halted, onward, reached, walk}
 use Rattle.bytes.proofs.Readings.{walk-then, then-passed, then-halted, parts, parts-by, passed-check, walk-give}
 use Rattle.bytes.proofs.Runs.{then-then, prepend, and-then, run-then, ends-at, walk-run, run-of-passed, run-of-halted, Plain, plain-then, plain-by, plain-give, plain-check, run-passed, run-halted, run-parts}
 use Rattle.bytes.specs.declared.error.XdrItem.{XdrItem}
 use Rattle.xdr.specs.Xdr.{pass, atLeast0, pointer, counted, further, elements, listHead}
 use Rattle.xdr.proofs.Plains.{plain-pass, plain-int, plain-float, plain-string, plain-parameter, plain-counted, plain-list-head}
 use Rattle.symbology.specs.Symbology.{Sweep, productBlock, xdrRadials, radialComponent, component, only, payload}
-use Rattle.symbology.specs.Walk.{anyWalk, onlyWhole, listed, position, Gates28, componentHead, reached, sweepFrom, Planned, Plans}
+use Rattle.symbology.specs.Walk.{anyWalk, onlyWhole, listed, position, Gates28, componentHead, sweepFrom, Planned, Plans}
 use Rattle.symbology.specs.declared.figures.Figures.{Figures}
 use Rattle.symbology.specs.declared.spans.PlanRead.{PlanRead}
 use Rattle.symbology.specs.declared.spans.PlanRead.the-variants as PlanRead

@@ -12,7 +12,7 @@ use lib.Ieee.{Float}
 use Rattle.bytes.specs.Refusal.{refusalOf, kind, nat, whole}
 use Rattle.bytes.specs.Bytes.{u16At}
 use Rattle.bytes.specs.Result.{Result, accepted, refused, then}
-use Rattle.bytes.specs.Reading.{Read, Flat, give, remaining, _>>=_, _>>_, radial-data, refuse-if, run, Given, Ended, passed, halted, onward}
+use Rattle.bytes.specs.Reading.{Read, Flat, give, remaining, _>>=_, _>>_, radial-data, refuse-if, run, Given, Ended, passed, halted, onward, reached}
 use Rattle.xdr.specs.Xdr as Xdr
 use Rattle.xdr.specs.Xdr.{int, string, atLeast0, pointer, elements, counted, parameter}
 use Rattle.symbology.specs.Centre.{centre}
@@ -161,10 +161,6 @@ componentHead = do
 abbrev pub gatesOf : GatesRead → Result (Gates28 × ℕ)
 gatesOf (GatesRead.Value n w f p) = accepted (record { radials = n; gateWidth = w; firstGate = f }, p)
 gatesOf (GatesRead.Refused e) = refused (refusalOf e)
-
-abbrev pub reached : {A : Type 0} → Ended A → Result (A × ℕ)
-reached (passed a p) = accepted (a, p)
-reached (halted x p) = refused x
 
 -- a step with its figures
 abbrev pub gatesThen : ℕ → Float → Float → Ended (Unit {0}) → Result (Gates28 × ℕ)

@@ -15,11 +15,11 @@ ghost use Prim.Native.Nat.{_*_, _≤_, _<_};
 ghost use mathlib.Core.Bool.{_&&_};
 ghost use lib.Dec.{eqb, ltb};
 ghost use lib.ListN.{length};
-ghost use Rattle.bytes.specs.Reading.{walk};
+ghost use Rattle.bytes.specs.Reading.{walk, reached};
 ghost use Rattle.xdr.specs.Xdr.{atLeast0};
 ghost use Rattle.xdr.specs.Answers.{stepOf, from, after};
 ghost use Rattle.symbology.specs.Symbology.{productBlock, xdrFrame};
-ghost use Rattle.symbology.specs.Walk.{expectedOf, stripSpan, placeOf, placed, stripOf, componentHead, gatesOf, gatesThen, reached};
+ghost use Rattle.symbology.specs.Walk.{expectedOf, stripSpan, placeOf, placed, stripOf, componentHead, gatesOf, gatesThen};
 
 const RADIAL_COMPONENT_TYPE: usize = 1;
 

@@ -1,17 +1,18 @@
 -- Worked answers, computed from the definitions: each padding length, each cap and one more, lists with and without their pointer, P4.
+-- Assumes nothing.
 use Prim.Native.Nat.{ℕ}
 use mathlib.Core.List.{List, [], _∷_}
 use mathlib.Core.Path.{_≡_, refl}
 use lib.IntN.{pos}
 use Rattle.bytes.specs.Bytes.{u16At, u32At, signed}
-use Rattle.bytes.specs.Refusal.{Refusal, kind, nat, whole, item}
+use Rattle.bytes.specs.Refusal.{kind, nat, whole}
 use Rattle.bytes.specs.Reading.{passed, halted, walk, _>>=_, _>>_, remaining, u32, unread, refuse-if, as-number, as-unread, pieces}
 use Rattle.bytes.specs.Text.{trimEnd}
-use Rattle.bytes.specs.declared.error.XdrItem.{XdrItem}
 use Rattle.bytes.specs.declared.error.XdrItem.the-variants as Item
 use Rattle.xdr.specs.Xdr.{short, pass, word, int, uint, stringBody, string, arrayCount, intArray, pointer, listHead, further, elements, counted, parameter}
 use Rattle.xdr.specs.Answers.{stringPart, arrayPart}
 use Rattle.xdr.specs.declared.xdr.Part.{Part}
+use Rattle.xdr.proofs.Items.{cut}
 
 -- a number below 65,536 as four bytes
 abbrev four : ℕ → ℕ → List ℕ → List ℕ
@@ -19,9 +20,6 @@ four a b rest = 0 ∷ 0 ∷ a ∷ b ∷ rest
 
 abbrev part : ℕ → ℕ → Part
 part start len = record { start = start; len = len }
-
-abbrev cut : XdrItem → ℕ → ℕ → Refusal
-cut i have need = kind 23 (item i ∷ nat have ∷ nat need ∷ [])
 
 -- ---- strings
 

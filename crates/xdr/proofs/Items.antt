@@ -21,10 +21,10 @@ use Rattle.bytes.proofs.Readings.{walk-then, walk-check, then-passed, then-halt
 use Rattle.xdr.specs.Xdr.{short, pass, word, int, uint, padding, stringBody, string, arrayCount, intArray, pointer, listHead, listCount, atLeast0}
 use Rattle.xdr.specs.Answers.{bodyPart, stringPart, arrayPart}
 
-abbrev on : ℕ → Ended (Unit {0})
+abbrev pub on : ℕ → Ended (Unit {0})
 on q = passed tt q
 
-abbrev cut : XdrItem → ℕ → ℕ → Refusal
+abbrev pub cut : XdrItem → ℕ → ℕ → Refusal
 cut i have need = kind 23 (item i ∷ nat have ∷ nat need ∷ [])
 
 -- ---- a take, and a word

@@ -11,6 +11,7 @@ use Rattle.bytes.specs.declared.error.XdrItem.the-variants as Item
 use Rattle.bytes.proofs.Readings.{walk-then, walk-check, then-passed, then-halted}
 use Rattle.xdr.specs.Xdr.{pass, string, parameter, pointer, listHead, further, elements, counted}
 use Rattle.xdr.specs.Answers.{done, stringPart, from, after, valueOr}
+use Rattle.xdr.proofs.Items.{on}
 
 module _ {A B C : Type 0} (t : Flat A) (f : A → Flat B) (u : Flat C) (s : List ℕ) where
   -- one reading after another: where it ends does not depend on the value between them
@@ -52,10 +53,6 @@ done-string s p = go (walk string s p)
 pub done-unit : (e : Ended (Unit {0})) → done e ≡ e
 done-unit (passed a p) = refl
 done-unit (halted x p) = refl
-
-pub from-halted : {A : Type 0} (t : Flat A) (s : List ℕ) (x : Refusal) (p : ℕ) → halted x p ≡ from t s (halted x p)
-unfolding from
-from-halted t s x p = refl
 
 pub from-passed : {A : Type 0} (t : Flat A) (s : List ℕ) (p : ℕ) → walk t s p ≡ from t s (passed tt p)
 unfolding from
@@ -152,16 +149,13 @@ module _ {A B : Type 0} (t : Flat A) where
   unfolding after
   after-by u s e h k = k ∙ ap (λ y. done (from u s y)) h ∙ sym (ap done (from-by u s e))
 
-abbrev reached : ℕ → Ended (Unit {0})
-reached p = passed tt p
-
 module _ {B : Type 0} (b : Bool) (x : Refusal) (u : Flat B) (s : List ℕ) where
   from-check : (e : Ended (Unit {0})) → from (refuse-if b x >> u) s e ≡ from u s (onward e (λ _ p. cond b (halted x p) (passed tt p)))
   unfolding from _>>_
   from-check (halted y p) = refl
   from-check (passed a p) = walk-check b x (λ _. u) s p ∙ go b
     where
-      go : (b : Bool) → cond b (halted x p) (walk u s p) ≡ onward (cond b (halted x p) (reached p)) (λ _ q. walk u s q)
+      go : (b : Bool) → cond b (halted x p) (walk u s p) ≡ onward (cond b (halted x p) (on p)) (λ _ q. walk u s q)
       go true = refl
       go false = refl
 

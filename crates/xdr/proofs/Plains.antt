@@ -1,6 +1,6 @@
 -- The XDR items have no radial's data. Assumes nothing.
 use Prim.Native.Nat.{ℕ, zero, suc}
-use Rattle.bytes.specs.Reading.{Flat, give, _>>=_, _>>_}
+use Rattle.bytes.specs.Reading.{Flat}
 use Rattle.bytes.specs.declared.error.XdrItem.{XdrItem}
 use Rattle.bytes.proofs.Runs.{Plain, plain-then, plain-by, plain-give, plain-check, plain-remaining, plain-u32, plain-unread}
 use Rattle.xdr.specs.Xdr.{short, pass, word, int, uint, float, stringBody, string, arrayCount, pointer, listHead, further, elements, counted, parameter}

@@ -78,7 +78,7 @@ intArray = do
 unfoldable pub pointer : Flat (Unit {0})
 pointer = pass Item.Int 4
 
--- a count at or below 0 is empty
+-- max(0, n): a list's count at or below 0 is empty
 abbrev pub atLeast0 : ℤ → ℕ
 atLeast0 (pos n) = n
 atLeast0 (negsuc n) = 0

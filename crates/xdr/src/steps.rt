@@ -12,7 +12,7 @@ ghost use lib.IntN.{pos};
 ghost use Rattle.bytes.specs.Float.{f32};
 ghost use Rattle.bytes.specs.Refusal.{refusalOf};
 ghost use Rattle.bytes.specs.Reading.{walk, onward, passed, halted};
-ghost use Rattle.xdr.specs.Xdr.{pass, float, int, string, arrayCount, listHead, parameter, further, elements, counted};
+ghost use Rattle.xdr.specs.Xdr.{pass, float, int, string, arrayCount, parameter, further, elements, counted};
 ghost use Rattle.xdr.specs.Answers.{stepOf, floatOf, intOf, countOf, partOf, done, from, after, valueOr};
 
 // Past four bytes that are not used.
@@ -133,18 +133,6 @@ pub fn array_count_after(buf: &[u8], st: Step) -> CountStep
 {
     match st {
         Step::At(at) => count_step(crate::xdr::array_count(buf, at)),
-        Step::Refused { error, at } => CountStep {
-            value: 0,
-            then: Step::Refused { error, at },
-        },
-    }
-}
-
-pub fn list_head_after(buf: &[u8], st: Step) -> CountStep
-    ensures { λ r. ⌜ (r .value ≡ valueOr 0 (from listHead (now (buf .entry)) (stepOf st))) × (stepOf (r .then) ≡ after listHead (now (buf .entry)) (stepOf st)) ⌝ }
-{
-    match st {
-        Step::At(at) => count_step(crate::xdr::list_head(buf, at)),
         Step::Refused { error, at } => CountStep {
             value: 0,
             then: Step::Refused { error, at },

@@ -6,7 +6,7 @@ ghost use mathlib.Core.Path.{_≡_};
 ghost use Prim.Native.Nat.{_≤_, _<_};
 ghost use lib.ListN.{length};
 ghost use Rattle.bytes.specs.Reading.{walk};
-ghost use Rattle.xdr.specs.Xdr.{pass, word, int, uint, float, padding, stringBody, string, arrayCount, intArray, atLeast0, listCount, listHead};
+ghost use Rattle.xdr.specs.Xdr.{pass, word, int, uint, float, stringBody, string, arrayCount, intArray, atLeast0, listCount, listHead};
 ghost use Rattle.xdr.specs.Answers.{stepOf, uintOf, intOf, floatOf, countOf, partOf, bodyPart, stringPart, arrayPart};
 
 const MAX_XDR_STRING_LEN: u32 = 4096;

@@ -2,7 +2,6 @@ use borrow.Author.Tests.{not-true, not-false}
 use Rattle.head.specs.Header.{blank}
 use Rattle.bytes.proofs.Ends.{Back, back-first, back-next, back-stop, back-end}
 use mathlib.Core.Path.{_∙_, sym}
-use Prim.Native.Nat.{_-_}
 use borrow.Author.Needs.{needs}
 use Rattle.head.proofs.header.length_without_blanks.Statement.{statement}
 use Rattle.head.proofs.header.length_without_blanks.Tie as tie

@@ -1,4 +1,5 @@
-use Rattle.head.proofs.Fields.{field-inside, then-by}
+use Rattle.bytes.proofs.Results.{then-by}
+use Rattle.head.proofs.Fields.{field-inside}
 use Rattle.head.specs.Outcome.{place}
 use Rattle.head.specs.Pdb.{hwPair}
 use Rattle.bytes.specs.Result.{accepted}

@@ -1,7 +1,7 @@
 use Rattle.head.specs.Outcome.{place}
 use Rattle.head.specs.Pdb.{hwU16}
 use Rattle.bytes.specs.Result.{accepted}
-use Rattle.head.proofs.Fields.{then-by}
+use Rattle.bytes.proofs.Results.{then-by}
 use mathlib.Core.Path.{_∙_, sym, ap}
 use borrow.Author.Needs.{needs}
 use Rattle.head.proofs.pdb.hw_u16.Statement.{statement}

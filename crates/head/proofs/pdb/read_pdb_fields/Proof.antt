@@ -1,7 +1,7 @@
 use Rattle.head.specs.Pdb.{pdbFields, thousandths, tenths, metres}
 use mir.Syntax.{w16, w32}
 use mir.Facts.{toZ-ofZ}
-use Rattle.head.proofs.Fields.{then-by}
+use Rattle.bytes.proofs.Results.{then-by}
 use Rattle.bytes.specs.Result.{Result, accepted}
 use Rattle.head.specs.declared.pdb.PdbFields.{PdbFields}
 use mathlib.Core.Path.{_≡_, _∙_, sym, ap}

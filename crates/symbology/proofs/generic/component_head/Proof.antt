@@ -1,8 +1,8 @@
-use Rattle.symbology.specs.Walk.{Gates28, componentHead, reached}
+use Rattle.symbology.specs.Walk.{Gates28, componentHead}
 use Rattle.xdr.proofs.Lists.{go-on, go-by, check-as, from-give, from-passed}
 use Rattle.xdr.specs.Answers.{stepOf}
 use Rattle.xdr.specs.Xdr.{atLeast0}
-use Rattle.bytes.specs.Reading.{passed, onward}
+use Rattle.bytes.specs.Reading.{passed, onward, reached}
 use mir.Syntax.{w32}
 use mir.Facts.{toZ-ofZ}
 use lib.Signed.{leZ, ltZ}

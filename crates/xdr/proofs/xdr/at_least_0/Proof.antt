@@ -4,18 +4,13 @@ use mir.Facts.{toZ-ofZ}
 use mir.Syntax.{w32}
 use Rattle.xdr.proofs.xdr.at_least_0.Statement.{statement}
 use Rattle.xdr.proofs.xdr.at_least_0.Tie as tie
-use Rattle.xdr.proofs.xdr.at_least_0.Reads as reads
-use Rattle.xdr.proofs.xdr.at_least_0.Lts as lts
 
--- src/xdr.rt:219:9
 returns : tie.Need-returns
 returns c = (none-below (toZ-ofZ {w = w32} {z = c .before .args .n} (c .before .fits .n)) (c .if1 .taken), omega arith)
 
--- src/xdr.rt:221:5
 cast-result : tie.Need-cast-result
 cast-result c = above-fits (toZ-ofZ {w = w32} {z = c .before .args .n} (c .before .fits .n)) (c .before .fits .n) (c .if1 .left) .0
 
--- src/xdr.rt:215:1
 returns-2 : tie.Need-returns-2
 returns-2 c = above-fits (toZ-ofZ {w = w32} {z = c .before .args .n} (c .before .fits .n)) (c .before .fits .n) (c .if1 .left) .1
 

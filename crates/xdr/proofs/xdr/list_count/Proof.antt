@@ -4,19 +4,13 @@ use mir.Syntax.{w32}
 use borrow.Author.Needs.{needs}
 use Rattle.xdr.proofs.xdr.list_count.Statement.{statement}
 use Rattle.xdr.proofs.xdr.list_count.Tie as tie
-use Rattle.xdr.proofs.xdr.list_count.Reads as reads
-use Rattle.xdr.proofs.xdr.list_count.Lts as lts
-use Rattle.xdr.proofs.xdr.at_least_0.Reads as at-least-0-reads
 
--- src/xdr.rt:229:9
 returns : tie.Need-returns
 returns c = count-long (toZ-ofZ {w = w32} {z = c .before .args .count} (c .before .fits .count)) _ (c .if1 .taken)
 
--- src/xdr.rt:238:16
 at-least-0-requires : tie.Need-at-least-0-requires
 at-least-0-requires c κs = search needs
 
--- src/xdr.rt:225:1
 returns-2 : tie.Need-returns-2
 returns-2 c = count-value (toZ-ofZ {w = w32} {z = c .before .before .args .count} (c .before .before .fits .count)) _ (c .before .if1 .left) (c .at-least-0 .ensures .0)
 
