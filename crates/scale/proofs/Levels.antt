@@ -13,6 +13,7 @@ use borrow.Author.Tests.{ltb-true, ltb-false, lt-ltb, le-ltb}
 use lib.Bits.{bitOr, bitAnd, and-le-l, and-le-r, or-lt, or-add-and}
 use lib.Seq.{drop-cons, drop-length}
 use Rattle.bytes.specs.Text.{all}
+use Rattle.bytes.proofs.Codes.{both}
 use Rattle.scale.specs.Legacy.{levelAt, levelsOf, sixteen}
 use Rattle.scale.specs.Physical.{hasLevel, levelOf, valueOf}
 use Rattle.scale.specs.declared.physical.Scaling.the-variants as Scaling
@@ -71,7 +72,7 @@ module _ {cs : List ℕ} {bits i : ℕ} (inv : Together cs bits i) where
         known =
             inv .known
             ∙ ap (λ (s : List ℕ). hasLevel bits && all hasLevel s) e
-            ∙ and-assoc (hasLevel bits) (hasLevel (getD cs i 0)) (all hasLevel (drop (i + 1) cs))
+            ∙ sym (and-assoc (hasLevel bits) (hasLevel (getD cs i 0)) (all hasLevel (drop (i + 1) cs)))
             ∙ ap (λ (b : Bool). b && all hasLevel (drop (i + 1) cs)) (sym (both-have bits (getD cs i 0)));
       }
 
@@ -85,9 +86,11 @@ module _ {cs : List ℕ} {bits i : ℕ} (inv : Together cs bits i) where
 pub code-has : (cs : List ℕ) (i : ℕ) → all hasLevel cs ≡ true → i < length cs → hasLevel (getD cs i 0) ≡ true
 unfolding all
 code-has [] i e h = absurd (not-suc-le-zero h)
-code-has (x ∷ cs) i e h = go (hasLevel x) refl i h e
-  where
-    go : (b : Bool) → hasLevel x ≡ b → (i : ℕ) → i < suc (length cs) → b && all hasLevel cs ≡ true → hasLevel (getD (x ∷ cs) i 0) ≡ true
-    go true t zero h e = t
-    go true t (suc i) h e = code-has cs i e (le-of-suc-le-suc h)
-    go false t i h e = let z : _≡_ {A = ℕ} 0 1 = cc in absurd (omega arith)
+code-has (x ∷ cs) zero e h = both (hasLevel x) (all hasLevel cs) e .0
+code-has (x ∷ cs) (suc i) e h = code-has cs i (both (hasLevel x) (all hasLevel cs) e .1) (le-of-suc-le-suc h)
+
+pub code-small : (cs : List ℕ) (i : ℕ) → all hasLevel cs ≡ true → i < length cs → getD cs i 0 < 16
+code-small cs i e h = ltb-true (getD cs i 0) 16 (code-has cs i e h)
+
+pub level-known : (levels : List Float) (code : ℕ) → hasLevel code ≡ true → getD levels code nan ≡ levelOf levels code
+level-known levels code e = ap (λ (b : Bool). cond b (getD levels code nan) nan) (sym e)

@@ -1,65 +1,60 @@
+use Prim.Native.Nat.{_-_, _<_}
+use native.Mathlib.Omega.{arith}
+use lib.ListN.{length, getD}
+use borrow.Author.Needs.{needs}
+use Rattle.scale.specs.Physical.{levelOf}
+use Rattle.scale.proofs.Mapped.{Mapped, mapped-first, mapped-turn, mapped-end}
+use Rattle.scale.proofs.Levels.{code-has, code-small, level-known}
 use Rattle.scale.proofs.physical.fill_known_levels.Statement.{statement}
 use Rattle.scale.proofs.physical.fill_known_levels.Tie as tie
-use Rattle.scale.proofs.physical.fill_known_levels.Reads as reads
-use Rattle.scale.proofs.physical.fill_known_levels.Lts as lts
 
 abbrev Inv-loop : tie.InvT-loop
-Inv-loop levels codes physical₀ i₀ physical i = ?
+Inv-loop levels codes physical₀ i₀ physical i = Mapped (levelOf levels) codes physical₀ physical i
 
 abbrev μ-loop : tie.MeasureT-loop
-μ-loop levels codes physical₀ i₀ physical i = ?
+μ-loop levels codes physical₀ i₀ physical i = length codes - i
 
--- src/physical.rt:257:5
 loop-holds : tie.Need-loop-holds Inv-loop μ-loop
-loop-holds c = ?
+loop-holds c = mapped-first _ _ _ (search needs)
 
--- src/physical.rt:258:30
 mul-physical : tie.Need-mul-physical Inv-loop μ-loop
-mul-physical c = ?
+mul-physical c = search needs
 
--- src/physical.rt:258:30
 shared-slice-read-physical : tie.Need-shared-slice-read-physical Inv-loop μ-loop
-shared-slice-read-physical c = ?
+shared-slice-read-physical c = search needs
 
--- src/physical.rt:258:30
+small : (c : tie.After-shared-slice-known Inv-loop μ-loop) → getD (c .before .before .before .args .codes .now) (c .before .before .loop .i) 0 < 16
+small c = code-small (c .before .before .before .args .codes .now) (c .before .before .loop .i) (search needs) (c .before .loop-test .taken)
+
 cast-physical : tie.Need-cast-physical Inv-loop μ-loop
-cast-physical c = ?
+cast-physical c = record { fits = omega (arith, small c) }
 
--- src/physical.rt:258:23
 mul-physical-2 : tie.Need-mul-physical-2 Inv-loop μ-loop
-mul-physical-2 c = ?
+mul-physical-2 c = record { fits = omega (arith, small c) }
 
--- src/physical.rt:258:23
 element-copy-out-physical : tie.Need-element-copy-out-physical Inv-loop μ-loop
-element-copy-out-physical c = ?
+element-copy-out-physical c = small c
 
--- src/physical.rt:258:9
 mul-physical-3 : tie.Need-mul-physical-3 Inv-loop μ-loop
-mul-physical-3 c = ?
+mul-physical-3 c = search needs
 
--- src/physical.rt:258:9
 slice-write-physical : tie.Need-slice-write-physical Inv-loop μ-loop
-slice-write-physical c = ?
+slice-write-physical c = search needs
 
--- src/physical.rt:259:9
 add-i : tie.Need-add-i Inv-loop μ-loop
-add-i c = ?
+add-i c = search needs
 
--- src/physical.rt:257:5
 loop-less : tie.Need-loop-less Inv-loop μ-loop
-loop-less c = ?
+loop-less c = search needs
 
--- src/physical.rt:257:5
 loop-again : tie.Need-loop-again Inv-loop μ-loop
-loop-again c = ?
+loop-again c = mapped-turn (c .before .before .before .loop .inv) 0 _ (omega arith) (level-known (c .before .before .before .before .args .levels .now) _ (code-has (c .before .before .before .before .args .codes .now) (c .before .before .before .loop .i) (search needs) (c .before .before .loop-test .taken)))
 
--- src/physical.rt:252:1
 same-length : tie.Need-same-length Inv-loop μ-loop
-same-length c = ?
+same-length c = search needs
 
--- src/physical.rt:252:1
 returns : tie.Need-returns Inv-loop μ-loop
-returns c = ?
+returns c = mapped-end (c .before .loop .inv) (c .loop-test .left)
 
 pub fill-known-levels-spec : {M : Type 1} → statement M
 fill-known-levels-spec =
