@@ -14,11 +14,6 @@ use Rattle.bytes.specs.Products.{codes, known}
 use Rattle.head.specs.Header.{blank, alphanumeric, cut, separator, firstToken, token, product, site, firstOf, headerAt, messageHeader, scanTime}
 use Rattle.head.specs.Pdb.{fieldAt, hwI16, hwU16, hwI32, pdbFields}
 
--- P13: day 1, second 0
-pub p13 : scanTime 1 (pos 0) 0 ≡ accepted 0
-unfolding scanTime
-p13 = refl
-
 -- exactly 86,400 ahead passes, one more does not
 pub ahead : scanTime 2 (pos 0) 0 ≡ accepted 86400
 unfolding scanTime

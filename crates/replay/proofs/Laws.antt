@@ -3,7 +3,7 @@ use mathlib.Core.Path.{_≡_, sym, subst}
 use mathlib.Core.Bool.{false, not}
 use mathlib.Core.List.{List}
 use Prim.Native.Nat.{ℕ, _≤_}
-use lib.ListN.{length, take}
+use lib.ListN.{length}
 use lib.Seq.{length-take-le}
 use lib.Dec.{T}
 use lib.Ieee.{Float, nan, inf, fin, ne, eq, isNan}

@@ -19,14 +19,9 @@ use Rattle.scale.specs.Legacy.{scaleOf, legacyLevel}
 use Rattle.scale.specs.Physical.{cappedValue, openValue, precipValue, valueOf, declaredScale}
 use Rattle.scale.specs.Scaling.{usable, floorOf, ceilingOf, linearFloat, scaled, levelCount, linearDeclared}
 
--- P11: flag 0x21, value 40, post-scale 1: -2
-pub p11 : legacyLevel 0x21 40 (f32 1 1) ≡ neg (f32 2 1)
-unfolding mul div ofInt neg f32
-p11 = refl
-
--- P12: leading 9: floor 1, and no ceiling
-pub p12 : (floorOf 255 9 0 ≡ 1) × (ceilingOf 255 9 0 ≡ Absent)
-p12 = (refl, refl)
+-- leading 9: floor 1, and no ceiling
+pub leading-9 : (floorOf 255 9 0 ≡ 1) × (ceilingOf 255 9 0 ≡ Absent)
+leading-9 = (refl, refl)
 
 -- ---- the float scheme's ranges: codes 2 and 255
 

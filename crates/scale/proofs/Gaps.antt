@@ -4,12 +4,12 @@ use mathlib.Core.Bool.{Bool, true, false, cond}
 use Prim.Native.Nat.{ℕ, zero, suc, _+_, _-_, _*_, _^_, _≤_, _<_}
 use native.Mathlib.Nat.{lt-of-lt-of-le, le-of-lt, mul-one, zero-mul, add-zero, sub-self, mul-right-comm, mul-pos, eq-of-mul-eq-mul-right}
 use native.Mathlib.Omega.{arith}
-use lib.IntN.{ℤ, pos, negsuc, _+ℤ_, _-ℤ_, subℕ}
+use lib.IntN.{ℤ, pos, negsuc, _+ℤ_, _-ℤ_}
 use lib.Signed.{ltZ}
 use mir.Syntax.{w32}
 use mir.Val.{SFits, toZ, ofZ}
 use mir.Facts.{toZ-pos, toZ-ofZ}
-use lib.Dec.{T, ltb, leb, lit≤, lit<, le→leb, lt→ltb}
+use lib.Dec.{T, ltb, lit≤, lit<, le→leb, lt→ltb}
 use lib.Pow.{pow-mono, shl-lt}
 use borrow.Author.Tests.{le-ltb, ne-eqb, ltb-true, ltb-false}
 use lib.Ieee.{Float, nan, inf, fin, binary32, up, down, round, ofInt, sum, add, sub, mul, div, neg, ofBits, inSigned, whole, toSigned, inFloat}

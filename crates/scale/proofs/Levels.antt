@@ -10,7 +10,7 @@ use lib.Dec.{ltb}
 use lib.ListN.{length, getD, drop}
 use lib.Ieee.{Float, nan}
 use borrow.Author.Tests.{ltb-true, ltb-false, lt-ltb, le-ltb}
-use lib.Bits.{bitOr, bitAnd, and-le-l, and-le-r, or-lt, or-add-and}
+use lib.Bits.{bitOr, and-le-l, and-le-r, or-lt, or-add-and}
 use lib.Seq.{drop-cons, drop-length}
 use Rattle.bytes.specs.Text.{all}
 use Rattle.bytes.proofs.Codes.{both}

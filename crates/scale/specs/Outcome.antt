@@ -4,8 +4,8 @@ use Rattle.bytes.specs.Result.{Result, accepted, refused}
 use Rattle.scale.specs.declared.scaling.LinearScale.{LinearScale}
 use Rattle.scale.specs.declared.scaling.PrecipScale.{PrecipScale}
 use Rattle.scale.specs.declared.scaling.DeclaredLinearScale.{DeclaredLinearScale}
-use Rattle.scale.specs.declared.scaling.DeclaredRead.{DeclaredRead}
-use Rattle.scale.specs.declared.scaling.DeclaredRead.the-variants as DeclaredRead
+use Rattle.scale.specs.declared.scaling.LinearDeclaredRead.{LinearDeclaredRead}
+use Rattle.scale.specs.declared.scaling.LinearDeclaredRead.the-variants as LinearDeclaredRead
 use Rattle.scale.specs.declared.pdb.LinearScaleRead.{LinearScaleRead}
 use Rattle.scale.specs.declared.pdb.LinearScaleRead.the-variants as LinearScaleRead
 use Rattle.scale.specs.declared.pdb.PrecipScaleRead.{PrecipScaleRead}
@@ -19,9 +19,9 @@ use Rattle.scale.specs.declared.physical.DeclaredScaleRead.the-variants 
 use Rattle.scale.specs.declared.physical.Filled.{Filled}
 use Rattle.scale.specs.declared.physical.Filled.the-variants as Filled
 
-abbrev pub declaredOf : DeclaredRead → Result DeclaredLinearScale
-declaredOf (DeclaredRead.Value d) = accepted d
-declaredOf (DeclaredRead.Refused e) = refused (refusalOf e)
+abbrev pub linearDeclaredOf : LinearDeclaredRead → Result DeclaredLinearScale
+linearDeclaredOf (LinearDeclaredRead.Value d) = accepted d
+linearDeclaredOf (LinearDeclaredRead.Refused e) = refused (refusalOf e)
 
 abbrev pub linearOf : LinearScaleRead → Result LinearScale
 linearOf (LinearScaleRead.Value s) = accepted s

@@ -3,7 +3,6 @@ use crate::scaling::LinearScale;
 use crate::scaling::PrecipScale;
 use bytes::error::Level3DecodeError;
 use head::header::Place;
-use head::pdb::F32Pair;
 use head::pdb::I16Field;
 use head::pdb::PairField;
 use head::pdb::U16Field;

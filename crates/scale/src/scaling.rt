@@ -5,7 +5,7 @@ ghost use mathlib.Core.Path.{_≡_};
 ghost use Prim.Native.Nat.{_-_};
 ghost use lib.Ieee.Scale.{finite};
 ghost use Rattle.scale.specs.Scaling.{linearHw, linearFloat, usable, floorOf, ceilingOf, scaled, levelCount, linearDeclared, precipDeclared};
-ghost use Rattle.scale.specs.Outcome.{declaredOf};
+ghost use Rattle.scale.specs.Outcome.{linearDeclaredOf};
 
 // The minimum, the step and the level count of the halfword and the float scheme.
 pub struct LinearScale {
@@ -35,7 +35,7 @@ pub struct DeclaredLinearScale {
     pub data_floor_code: u8,
 }
 
-pub enum DeclaredRead {
+pub enum LinearDeclaredRead {
     Value(DeclaredLinearScale),
     Refused(Level3DecodeError),
 }
@@ -139,14 +139,14 @@ pub fn level_count(floor: u8, ceiling: Ceiling) -> u16
 }
 
 // Halfword and float: a step at or below 0 is refused; a NaN is not.
-pub fn linear_declared_scale(s: LinearScale) -> DeclaredRead
-    ensures { λ r. ⌜ declaredOf r ≡ linearDeclared s ⌝ }
+pub fn linear_declared_scale(s: LinearScale) -> LinearDeclaredRead
+    ensures { λ r. ⌜ linearDeclaredOf r ≡ linearDeclared s ⌝ }
 {
     let step = s.value_increment;
     if step <= 0.0 {
-        return DeclaredRead::Refused(Level3DecodeError::NonPositiveIncrement(step));
+        return LinearDeclaredRead::Refused(Level3DecodeError::NonPositiveIncrement(step));
     }
-    DeclaredRead::Value(DeclaredLinearScale {
+    LinearDeclaredRead::Value(DeclaredLinearScale {
         value_min: s.value_min,
         value_increment: step,
         n_levels: s.n_levels,

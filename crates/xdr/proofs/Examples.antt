@@ -37,8 +37,8 @@ pub record Strings : Type 0 where
   -- the cap, which the body then lacks, and one more
   pub cap : walk string (four 16 0 []) 0 ≡ halted (cut Item.StringBody 0 4096) 4
   pub over-cap : walk string (four 16 1 []) 0 ≡ halted (kind 24 (nat 4097 ∷ nat 4096 ∷ [])) 4
-  -- P4: nothing at all
-  pub p4 : walk string [] 0 ≡ halted (cut Item.Uint 0 4) 0
+  -- nothing at all
+  pub no-bytes : walk string [] 0 ≡ halted (cut Item.Uint 0 4) 0
 
 pub strings : Strings
 unfolding walk string stringBody uint word pass short remaining u32 unread refuse-if _>>=_ _>>_ trimEnd u32At u16At
@@ -53,7 +53,7 @@ strings = record {
   no-padding = refl;
   cap = refl;
   over-cap = refl;
-  p4 = refl;
+  no-bytes = refl;
 }
 
 -- ---- integer arrays

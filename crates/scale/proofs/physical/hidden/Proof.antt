@@ -1,5 +1,5 @@
 use mathlib.Core.Path.{_∙_, sym, ap, subst}
-use lib.IntN.{ℤ, pos}
+use lib.IntN.{ℤ}
 use mir.Syntax.{w32}
 use mir.Val.{SFits, toZ, ofZ}
 use mir.Facts.{toZ-ofZ}
