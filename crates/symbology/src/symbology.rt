@@ -4,6 +4,7 @@ use crate::figures::FiguresRead;
 use crate::figures::Geometry;
 use crate::figures::Packet;
 use crate::figures::Room;
+use crate::figures::StepCheck;
 use crate::figures::Terms;
 use crate::radials::HeaderRead;
 use crate::spans::BodyPlan;
@@ -207,10 +208,10 @@ fn test_terms(terms: Terms, azimuths: usize, codes: usize, figures: Figures) -> 
     if !is_asked(terms, packet) {
         return Check::Refused(Level3DecodeError::SchemeMismatch);
     }
-    let scale = terms.scale;
-    match scale {
-        Check::Refused(error) => Check::Refused(error),
-        Check::Passed => test_room(
+    let step = terms.step;
+    match step {
+        StepCheck::NotPositive(x) => Check::Refused(Level3DecodeError::NonPositiveIncrement(x)),
+        StepCheck::Passed => test_room(
             terms,
             azimuths,
             codes,
@@ -263,7 +264,7 @@ pub fn decode_symbology(body: &[u8], azimuths: &mut [f64], codes: &mut [u16]) ->
         packet16: true,
         packet_af1f: true,
         packet28: true,
-        scale: Check::Passed,
+        step: StepCheck::Passed,
         physical: Room::Unasked,
     };
     decode_for(body, terms, azimuths, codes)
