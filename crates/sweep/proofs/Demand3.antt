@@ -27,7 +27,8 @@ use Rattle.symbology.proofs.DamageWords.{damage-in-words}
 use Rattle.symbology.proofs.FirstBad.{firstBad, levels-are}
 use Rattle.sweep.specs.Sweep.{Accepted, sweepOf}
 use Rattle.sweep.specs.Demand3.{rowAt, Damaged, LowestBad, Names, Refuses, AllMake, Kept, Demand3}
-use Rattle.sweep.proofs.RowLaws.{row-values, row-here}
+use Rattle.symbology.proofs.RowPlaces.{row-here}
+use Rattle.sweep.proofs.RowLaws.{row-values}
 use Rattle.sweep.proofs.Parts.{clash, block-start, with-codes, Parts, parts}
 use Rattle.sweep.proofs.Lowest.{lowest-bad}
 

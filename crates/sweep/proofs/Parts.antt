@@ -19,8 +19,8 @@ use Rattle.symbology.specs.Symbology as Symbology
 use Rattle.symbology.specs.Symbology.{symbology}
 use Rattle.sweep.specs.declared.plan.Head.{Head}
 use Rattle.sweep.specs.Sweep.{headOf, allowed, roomFor, Accepted, finish, sweepOf}
-use Rattle.sweep.proofs.RowLaws.{codes-long}
-use Rattle.sweep.proofs.Centres.{centred}
+use Rattle.symbology.proofs.RowPlaces.{codes-long}
+use Rattle.symbology.proofs.Centres.{centred}
 
 -- a refusal is no acceptance
 pub clash : {A B : Type 0} (a : A) (x : Refusal) → _≡_ {A = Result A} (refused x) (accepted a) → B

@@ -33,7 +33,7 @@ use Rattle.symbology.specs.declared.figures.Terms.{Terms}
 use Rattle.sweep.specs.declared.plan.Head.{Head}
 use Rattle.sweep.specs.declared.sweep.Sweep.{Sweep}
 use Rattle.sweep.proofs.Parts.{clash, one-value, through, passed, block-start}
-use Rattle.sweep.proofs.RowLaws.{codes-long}
+use Rattle.symbology.proofs.RowPlaces.{codes-long}
 use Rattle.sweep.specs.Sweep.{headOf, allowed, roomFor, Accepted, finish, sweepOf, sweepIn, stepCheck, termsFor}
 
 -- ---- what is asked of a body on the terms of a scheme

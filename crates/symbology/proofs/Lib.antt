@@ -19,6 +19,7 @@ pub mod Path
 pub mod Marks
 pub mod Placement
 pub mod RowPlaces
+pub mod Centres
 pub mod DamageWords
 pub mod Walking
 pub mod Writing

@@ -1,17 +1,21 @@
--- An AF1F row in document 01's words: `reach` is the greatest sum of a prefix of the run lengths that is not over n_bins. Assumes nothing.
-use Prim.Native.Nat.{ℕ, zero, suc, _+_, _-_, _≤_}
+-- An AF1F row in document 01's words: `reach` is the greatest sum of a prefix of the run lengths that is not over n_bins, and a cell has
+-- the colour of the run that covers it. Assumes nothing.
+use Prim.Native.Nat.{ℕ, zero, suc, _+_, _-_, _≤_, _<_}
 use native.Mathlib.Omega.{arith}
-use mathlib.Core.List.{List, [], _∷_}
+use mathlib.Core.List.{List, [], _∷_, _++_}
 use mathlib.Core.Bool.{Bool, true, false, cond}
-use mathlib.Core.Path.{_≡_, refl, ap}
-use lib.ListN.{take}
+use mathlib.Core.Path.{_≡_, refl, sym, ap, _∙_}
+use lib.ListN.{length, getD, take, replicate, length-replicate, getD-replicate, List·getD-append}
+use lib.Seq.{getD-take, getD-append-add}
 use lib.Dec.{leb}
-use borrow.Author.Tests.{leb-true, leb-false, eq-eqb}
+use native.Mathlib.Nat.{not-suc-le-zero, le-of-suc-le-suc}
+use borrow.Author.Tests.{leb-true, leb-false, eq-eqb, ne-eqb}
 use Rattle.bytes.specs.Result.{accepted}
-use Rattle.symbology.specs.Rows.{runOf, reach, cells, rowAF1F, rowOf}
+use Rattle.symbology.specs.Rows.{runOf, colourOf, reach, cells, rowAF1F, rowOf, codesOf}
 use Rattle.symbology.specs.Runs.{sumRuns, PrefixSum, RowOfRuns}
+use Rattle.symbology.specs.Places.{Enough}
 use Rattle.symbology.specs.declared.figures.Packet.the-variants.{PacketAf1f}
-use Rattle.symbology.proofs.FullRow.{row-made}
+use Rattle.symbology.proofs.FullRow.{row-made, full-row}
 
 record Greatest (n g : ℕ) (runs : List ℕ) : Type 0 where
   reached : PrefixSum runs g
@@ -37,11 +41,29 @@ reach-greatest n (b ∷ runs) = go (leb (runOf b) n) refl (reach-greatest (n - r
         let over = leb-false (runOf b) n e in
         record { reached = (0, (omega arith, refl)); not-over = omega arith; greatest = elim [ zero ↦ λ h. omega arith | suc k ↦ λ h. absurd (omega arith) ] }
 
+-- the cell at i is covered by run k where the runs before it end at or before i, and it ends after
+covering : (runs : List ℕ) (k i : ℕ) → k < length runs → sumRuns (take k runs) ≤ i → i < sumRuns (take (suc k) runs) → getD (cells runs) i 0 ≡ colourOf (getD runs k 0)
+unfolding sumRuns cells
+covering [] k i inside h l = absurd (not-suc-le-zero inside)
+covering (b ∷ runs) zero i inside h l =
+    let lt : i < runOf b = omega arith in
+    List·getD-append (replicate (runOf b) (colourOf b)) (cells runs) 0 i (rw length-replicate lt) ∙ getD-replicate (runOf b) i (colourOf b) 0 lt
+covering (b ∷ runs) (suc k) i inside h l =
+    let j : i ≡ length (replicate (runOf b) (colourOf b)) + (i - runOf b) = omega (arith, length-replicate (runOf b) (colourOf b)) in
+    ap (λ (n : ℕ). getD (replicate (runOf b) (colourOf b) ++ cells runs) n 0) j
+    ∙ getD-append-add (replicate (runOf b) (colourOf b)) (cells runs) (i - runOf b) 0
+    ∙ covering runs k (i - runOf b) (le-of-suc-le-suc inside) (omega arith) (omega arith)
+
 pub row-of-runs : (bins radial : ℕ) (runs : List ℕ) → RowOfRuns bins radial runs
-unfolding rowAF1F rowOf
+unfolding rowAF1F rowOf codesOf Enough
 row-of-runs bins radial runs =
     record {
       row = (λ (codes, e). rw (row-made PacketAf1f bins radial runs codes e .0) at (g .reached), back);
+      colours = λ codes e. let f = full-row PacketAf1f bins radial runs codes tt e in (
+        f .2,
+        λ k i inside lt h l. ap (λ (c : List ℕ). getD c i 0) (f .1) ∙ getD-take bins (cells runs) i 0 lt ∙ covering runs k i inside h l,
+      );
+      stopped = λ none. let short : ¬ (reach bins runs ≡ bins) = λ e. none (rw e at (g .reached)) in simp (ne-eqb (reach bins runs) bins short);
       reached = g .reached;
       not-over = g .not-over;
       greatest = g .greatest;

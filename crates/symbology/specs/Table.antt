@@ -1,14 +1,15 @@
--- Bodies with their pictures or refusals: a zero run in AF1F, and packet 28. (Document 01's table, P1 to P13, is the sweep's.)
+-- Bodies with their pictures or refusals: a zero run in AF1F, and packet 28, also its centres. (Document 01's table, P1 to P13, is the sweep's.)
 use Prim.Native.Nat.{ℕ, _/_, _%_, _+_}
 use mathlib.Core.List.{List, [], _∷_, _++_}
 use mathlib.Core.Path.{_≡_}
 use lib.ListN.{replicate, length}
-use lib.Ieee.{Float}
+use lib.Ieee.{Float, nan, neg}
 use Rattle.bytes.specs.Float.{f32, f64}
 use Rattle.bytes.specs.Refusal.{kind, nat}
 use Rattle.bytes.specs.Result.{Result, accepted, refused}
 use Rattle.bytes.specs.Reading.{Piece, as-number, as-unread, as-data, pieces}
 use Rattle.symbology.specs.Answers.{Picture, pictureOf}
+use Rattle.symbology.specs.Centre.{centre28}
 use Rattle.symbology.specs.Symbology.{symbology}
 use Rattle.symbology.specs.declared.figures.Packet.{Packet}
 use Rattle.symbology.specs.declared.figures.Packet.the-variants.{PacketAf1f, Packet28}
@@ -36,6 +37,13 @@ pub record Runs : Type 0 where
   pub zero-run : pictureOf (oneRadial 0xAF1F 5 (2, 0, 10) (0x31 ∷ 0x07 ∷ 0x25 ∷ 0x00 ∷ [])) ≡ onePicture PacketAf1f 5 (f64 5 10) (1 ∷ 1 ∷ 1 ∷ 5 ∷ 5 ∷ [])
 
 -- ---- packet 28
+
+-- (azimuth + width / 2) % 360, of azimuth and width: the sign is the dividend's, also of 0; NaN stays
+pub record Centres28 : Type 0 where
+  pub wraps : centre28 (f32 3595 10) (f32 1 1) ≡ f64 0 1
+  pub below-0 : centre28 (neg (f32 10 1)) (f32 1 1) ≡ neg (f64 95 10)
+  pub minus-0 : centre28 (neg (f32 360 1)) (f32 0 1) ≡ neg (f64 0 1)
+  pub stays-nan : centre28 nan (f32 1 1) ≡ nan
 
 -- a word
 abbrev pub four : ℕ → List ℕ
