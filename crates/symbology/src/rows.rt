@@ -4,10 +4,10 @@ use crate::figures::Packet;
 use crate::trailing::Check;
 use bytes::error::Level3DecodeError;
 ghost use mathlib.Core.Path.{_≡_};
-ghost use Prim.Native.Nat.{_+_, _*_, _/_, _%_, _≤_, _<_};
+ghost use Prim.Native.Nat.{_+_, _*_, _/_, _%_, _≤_, _<_, min};
 ghost use mathlib.Core.Bool.{true, _&&_};
-ghost use lib.ListN.{length, getD, take, replicate};
-ghost use lib.Dec.{eqb};
+ghost use mathlib.Core.List.{_++_};
+ghost use lib.ListN.{length, getD, take, drop, replicate};
 ghost use Rattle.bytes.specs.Bytes.{u16At, u32At};
 ghost use Rattle.bytes.specs.Result.{accepted, then};
 ghost use Rattle.bytes.specs.Text.{all, leading};
@@ -116,10 +116,10 @@ fn fill(part: &mut [u16], v: u16)
     }
 }
 
-// v at the first n places of the part, 16 at most. Whole blocks are stored, so the places after them may change too.
+// v at the first 16 places of the part, or at all where there are fewer. The caller needs n of them: a block is stored whole.
 fn spread(part: &mut [u16], n: usize, v: u16)
     requires { ⌜ (n ≤ 16) × (n ≤ length (now part)) ⌝ }
-    ensures { λ _. ⌜ take n (now (part .exit)) ≡ replicate n v ⌝ }
+    ensures { λ _. ⌜ now (part .exit) ≡ replicate (min 16 (length (now (part .entry)))) v ++ drop 16 (now (part .entry)) ⌝ }
 {
     if part.len() < 16 {
         fill(part, v);
@@ -153,7 +153,7 @@ fn rle_write(runs: &[u8], row: &mut [u16])
 // in a function of its own alone: where the bytes are used at once, it keeps them apart.
 fn low_first(buf: &[u8], at: usize) -> u32
     requires { ⌜ at + 4 ≤ length (now buf) ⌝ }
-    ensures { λ r. ⌜ eqb (r % 65536) 0 ≡ isLevel (u32At (now (buf .entry)) at) ⌝ }
+    ensures { λ r. ⌜ r ≡ getD (now (buf .entry)) at 0 + getD (now (buf .entry)) (at + 1) 0 * 256 + getD (now (buf .entry)) (at + 2) 0 * 65536 + getD (now (buf .entry)) (at + 3) 0 * 16777216 ⌝ }
 {
     let a = byte(buf, at);
     let b = byte(buf, at + 1);

@@ -58,7 +58,7 @@ loop-less : tie.Need-loop-less Inv-loop μ-loop
 loop-less c = search needs
 
 loop-again : tie.Need-loop-again Inv-loop μ-loop
-loop-again c = painted-turn (c .before .before .before .before .before .before .before .before .before .before .pre) (c .before .before .before .before .before .before .before .loop .inv) (omega arith) (c .before .before .before .before .before .byte .ensures .0) _ (c .before .before .before .before .if1 .left) (search needs) (c .before .before .spread .ensures)
+loop-again c = painted-turn (c .before .before .before .before .before .before .before .before .before .before .pre) (c .before .before .before .before .before .before .before .loop .inv) (omega arith) (c .before .before .before .before .before .byte .ensures .0) _ (search needs) (c .before .before .before .before .if1 .left) (search needs) (c .before .before .spread .ensures)
 
 same-length-2 : tie.Need-same-length-2 Inv-loop μ-loop
 same-length-2 c = search needs
