@@ -23,7 +23,7 @@ use Rattle.xdr.specs.Xdr as Xdr
 use Rattle.xdr.specs.Xdr.{short, pass, uint, int, padding, stringBody, string, arrayCount, pointer, atLeast0, listHead, further, elements, counted, parameter}
 use Rattle.symbology.specs.Places.{Label, string-body, string-padding, product-number, list-count, list-pointer, array-count, array-body, mark, Items, stringItems, furtherItems, elementItems, listItems, parameterItems, numbers, productItems, radialItems, radialsItems, componentItems}
 use Rattle.symbology.specs.Rows.{rowOf}
-use Rattle.symbology.specs.Symbology.{Sweep, productBlock, Strip, xdrFrame, xdrRadial, xdrWalk, xdrRadials, radialComponent, component, only, payload, genericPacket}
+use Rattle.symbology.specs.Symbology.{Sweep, productBlock, Strip, xdrFrame, xdrRadial, xdrWalk, xdrRadials, Gates28, componentHead, component, only, payload, genericPacket}
 use Rattle.symbology.specs.declared.figures.Packet.the-variants.{Packet28}
 use Rattle.symbology.proofs.Containment.{value-same}
 use Rattle.symbology.proofs.Path.{Post, Ends, then, tested, weaken, after, table}
@@ -296,9 +296,12 @@ module _ (b : List ℕ) (m : ℕ) where
       (at-then (at-walk (suc n) (strip .bins) n 1 e rest) λ l e' rs' later' h'.
       at-give _ ((refl, simp append-nil (rw (h .0, h' .0) refl)), h' .1))
 
-  at-component : (p : ℕ) (rest : ℕ → Items) → At component p (componentItems b rest p) (Swept rest)
-  unfolding component radialComponent componentItems _>>_ mark
-  at-component p rest =
+  -- after a head stand the radials, of which there is one
+  at-head : (p : ℕ) (rest : ℕ → Items)
+      → At componentHead p (componentItems b rest p)
+      (λ (h : Gates28) e rs later. (rs ≡ []) × (later ≡ radialsItems b (h .radials) rest e) × ((n : ℕ) × (h .radials ≡ suc n)))
+  unfolding componentHead componentItems _>>_ mark
+  at-head p rest =
       one-then _ one-int
       (at-test _ _ _ λ h27.
       quiet-then (at-string _ _) λ _ e₁.
@@ -307,8 +310,11 @@ module _ (b : List ℕ) (m : ℕ) where
       one-then _ one-int
       (at-test _ _ _ λ h29.
       at-test _ _ _ λ h30.
-      let k = positive (i32At b q) h29 in
-      rw (k .1) (at-radials (k .0) _ _ _ rest)))))
+      at-give _ (refl, refl, positive (i32At b q) h29)))))
+
+  at-component : (p : ℕ) (rest : ℕ → Items) → At component p (componentItems b rest p) (Swept rest)
+  unfolding component
+  at-component p rest = at-then (at-head p rest) λ h e rs later q. rw (q .0, q .1, q .2 .1) (at-radials (q .2 .0) _ _ e rest)
 
   at-only : (l : List Sweep) (rs : List RowFn) (p : ℕ) → Joined Rows28 l rs → At (only l) p [] (λ a e rs' later. Rows28 a (rs ++ rs') × (later ≡ []))
   unfolding only Joined Rows28 Ends

@@ -19,8 +19,8 @@ use Rattle.bytes.proofs.Runs.{then-then, prepend, and-then, run-then, ends-at, 
 use Rattle.bytes.specs.declared.error.XdrItem.{XdrItem}
 use Rattle.xdr.specs.Xdr.{pass, atLeast0, pointer, counted, further, elements, listHead}
 use Rattle.xdr.proofs.Plains.{plain-pass, plain-int, plain-float, plain-string, plain-parameter, plain-counted, plain-list-head}
-use Rattle.symbology.specs.Symbology.{Sweep, productBlock, xdrRadials, radialComponent, component, only, payload}
-use Rattle.symbology.specs.Walk.{anyWalk, onlyWhole, listed, position, Gates28, componentHead, reached, sweepFrom, Planned, Plans}
+use Rattle.symbology.specs.Symbology.{Sweep, productBlock, xdrRadials, Gates28, componentHead, component, only, payload}
+use Rattle.symbology.specs.Walk.{anyWalk, onlyWhole, listed, position, reached, sweepFrom, Planned, Plans}
 use Rattle.symbology.specs.declared.figures.Figures.{Figures}
 use Rattle.symbology.specs.declared.spans.PlanRead.{PlanRead}
 use Rattle.symbology.specs.declared.spans.PlanRead.the-variants as PlanRead
@@ -30,9 +30,6 @@ use Rattle.symbology.specs.declared.spans.PlanRead.the-variants as PlanR
 module _ {W A B : Type 0} where
   under : (t : Flat A) {f g : A → Read W B} → ((a : A) → f a ≡ g a) → t >>= f ≡ t >>= g
   under t h = ap (λ k. t >>= k) (fun-ext h)
-
-  beneath : (t : Flat A) {u v : Read W B} → u ≡ v → t >> u ≡ t >> v
-  beneath t h = ap (λ k. t >> k) h
 
   give-then : (a : A) (f : A → Read W B) → give a >>= f ≡ f a
   unfolding _>>=_
@@ -47,17 +44,6 @@ by-then t u g = then-then (λ _. u) g t
 -- its radials, of the figures that its head gives
 abbrev headed : Gates28 → Flat Sweep
 headed h = xdrRadials (h .radials) (h .gateWidth) (h .firstGate)
-
-component-is : component ≡ componentHead >>= headed
-unfolding component radialComponent componentHead
-component-is =
-    sym
-    (then-then _ _ _ ∙ under _ λ type. by-then _ _ _ ∙ beneath _
-    (by-then _ _ _ ∙ beneath _
-    (then-then _ _ _ ∙ under _ λ w. then-then _ _ _ ∙ under _ λ f. by-then _ _ _ ∙ beneath _
-    (then-then _ _ _ ∙ under _ λ n. by-then _ _ _ ∙ beneath _
-    (by-then _ _ _ ∙ beneath _
-    (give-then _ _))))))
 
 plain-head : Plain componentHead
 unfolding componentHead
@@ -78,7 +64,7 @@ plain-block =
     (plain-word _ _ (plain-word _ _ (plain-word _ _ (plain-word _ _ (plain-word _ _ (plain-word _ _
     (plain-by _ _ (plain-counted _ plain-parameter) (plain-give _)))))))))))))))))))
 
-counted-small : (v : ℤ) → leZ v (pos 0) ≡ false → ltZ (pos 100000) v ≡ false → (0 < atLeast0 v) × (atLeast0 v ≤ 100000)
+pub counted-small : (v : ℤ) → leZ v (pos 0) ≡ false → ltZ (pos 100000) v ≡ false → (0 < atLeast0 v) × (atLeast0 v ≤ 100000)
 counted-small (pos zero) h k = let z : _≡_ {A = ℕ} 0 1 = cc in absurd (omega arith)
 counted-small (pos (suc n)) h k = (omega arith, ltb-false _ _ k)
 counted-small (negsuc n) h k = let z : _≡_ {A = ℕ} 0 1 = cc in absurd (omega arith)
@@ -117,10 +103,12 @@ halt-of (halted y m) {x} h = let l : x ≡ y = cc in (m, ap (λ z. halted z m) l
 
 module _ (s : List ℕ) (p : ℕ) where
   pub component-refused : {x : Refusal} → refused x ≡ reached (walk componentHead s p) → refused x ≡ run component s p
-  component-refused h = run-halted headed componentHead plain-head s p (halt-of _ h .1) ∙ ap (λ t. run t s p) (sym component-is)
+  unfolding component
+  component-refused h = run-halted headed componentHead plain-head s p (halt-of _ h .1)
 
   pub component-at : {h : Gates28} {q : ℕ} → accepted (h, q) ≡ reached (walk componentHead s p) → run component s p ≡ run (headed h) s q
-  component-at h = ap (λ t. run t s p) component-is ∙ run-passed headed componentHead plain-head s p (walk-of _ h)
+  unfolding component
+  component-at h = run-passed headed componentHead plain-head s p (walk-of _ h)
 
   pub component-small : {h : Gates28} {q : ℕ} → accepted (h, q) ≡ reached (walk componentHead s p) → (0 < h .radials) × (h .radials ≤ 100000)
   component-small h = head-small s p (walk-of _ h)

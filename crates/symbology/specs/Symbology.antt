@@ -209,8 +209,17 @@ xdrRadials radials gateWidth firstGate = do
     azimuths = first .azimuth ∷ azimuths;
   })
 
-unfoldable pub radialComponent : Flat Sweep
-radialComponent = do
+-- a component up to its radials: how many, and the gate figures
+pub record Gates28 : Type 0 where
+  pub radials : ℕ
+  pub gateWidth : Float
+  pub firstGate : Float
+
+-- 27, 29, 30; the type 1 is "radial"
+unfoldable pub componentHead : Flat Gates28
+componentHead = do
+  type ← int
+  refuse-if (not (eqb (atLeast0 type) 1)) (kind 27 (whole type ∷ []))
   string  -- description
   gateWidth ← Xdr.float
   firstGate ← Xdr.float
@@ -218,14 +227,12 @@ radialComponent = do
   radials ← int
   refuse-if (leZ radials (pos 0)) (kind 29 (whole radials ∷ nat 0 ∷ []))
   refuse-if (ltZ (pos 100000) radials) (kind 30 (whole radials ∷ nat 100000 ∷ []))
-  xdrRadials (atLeast0 radials) gateWidth firstGate
+  give (record { radials = atLeast0 radials; gateWidth = gateWidth; firstGate = firstGate })
 
--- the type 1 is "radial"
 unfoldable pub component : Flat Sweep
 component = do
-  type ← int
-  refuse-if (not (eqb (atLeast0 type) 1)) (kind 27 (whole type ∷ []))
-  radialComponent
+  head ← componentHead
+  xdrRadials (head .radials) (head .gateWidth) (head .firstGate)
 
 -- 28 where not just one component was walked
 unfoldable pub only : List Sweep → Flat Sweep

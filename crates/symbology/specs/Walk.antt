@@ -6,18 +6,15 @@ use mathlib.Core.Bool.{Bool, true, false, not}
 use lib.Dec.{eqb}
 use lib.ListN.{length}
 use lib.Seq.{slice}
-use lib.IntN.{pos}
-use lib.Signed.{leZ, ltZ}
 use lib.Ieee.{Float}
-use Rattle.bytes.specs.Refusal.{refusalOf, kind, nat, whole}
+use Rattle.bytes.specs.Refusal.{refusalOf, kind, nat}
 use Rattle.bytes.specs.Bytes.{u16At}
 use Rattle.bytes.specs.Result.{Result, accepted, refused, then}
 use Rattle.bytes.specs.Reading.{Read, Flat, give, remaining, _>>=_, _>>_, radial-data, refuse-if, run, Given, Ended, passed, halted, onward}
-use Rattle.xdr.specs.Xdr as Xdr
-use Rattle.xdr.specs.Xdr.{int, string, atLeast0, pointer, elements, counted, parameter}
+use Rattle.xdr.specs.Xdr.{pointer, elements}
 use Rattle.symbology.specs.Centre.{centre}
 use Rattle.symbology.specs.Rows.{rowOf}
-use Rattle.symbology.specs.Symbology.{Sweep, Header, Strip, covered, frame, xdrFrame, component, only}
+use Rattle.symbology.specs.Symbology.{Sweep, Header, Strip, covered, frame, xdrFrame, Gates28, component, only}
 use Rattle.symbology.specs.declared.figures.Packet.{Packet}
 use Rattle.symbology.specs.declared.figures.Packet.the-variants.{Packet16, PacketAf1f, Packet28}
 use Rattle.xdr.specs.declared.xdr.Step.{Step}
@@ -139,25 +136,7 @@ centreIn r = then r λ g. accepted (g .value, g .next)
 
 -- ---- packet 28's payload
 
--- a component up to its radials: how many, and the gate figures. 27, 29, 30
-pub record Gates28 : Type 0 where
-  pub radials : ℕ
-  pub gateWidth : Float
-  pub firstGate : Float
-
-unfoldable pub componentHead : Flat Gates28
-componentHead = do
-  type ← int
-  refuse-if (not (eqb (atLeast0 type) 1)) (kind 27 (whole type ∷ []))
-  string
-  gateWidth ← Xdr.float
-  firstGate ← Xdr.float
-  counted parameter
-  radials ← int
-  refuse-if (leZ radials (pos 0)) (kind 29 (whole radials ∷ nat 0 ∷ []))
-  refuse-if (ltZ (pos 100000) radials) (kind 30 (whole radials ∷ nat 100000 ∷ []))
-  give (record { radials = atLeast0 radials; gateWidth = gateWidth; firstGate = firstGate })
-
+-- a component's head
 abbrev pub gatesOf : GatesRead → Result (Gates28 × ℕ)
 gatesOf (GatesRead.Value n w f p) = accepted (record { radials = n; gateWidth = w; firstGate = f }, p)
 gatesOf (GatesRead.Refused e) = refused (refusalOf e)

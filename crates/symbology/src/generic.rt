@@ -18,8 +18,8 @@ ghost use lib.ListN.{length};
 ghost use Rattle.bytes.specs.Reading.{walk};
 ghost use Rattle.xdr.specs.Xdr.{atLeast0};
 ghost use Rattle.xdr.specs.Answers.{stepOf, from, after};
-ghost use Rattle.symbology.specs.Symbology.{productBlock, xdrFrame};
-ghost use Rattle.symbology.specs.Walk.{expectedOf, stripSpan, placeOf, placed, stripOf, componentHead, gatesOf, gatesThen, reached};
+ghost use Rattle.symbology.specs.Symbology.{productBlock, xdrFrame, componentHead};
+ghost use Rattle.symbology.specs.Walk.{expectedOf, stripSpan, placeOf, placed, stripOf, gatesOf, gatesThen, reached};
 
 const RADIAL_COMPONENT_TYPE: usize = 1;
 
