@@ -23,7 +23,7 @@ use Rattle.symbology.specs.Symbology.{symbology}
 use Rattle.symbology.specs.Damage.{Changed, MakesRow, Contained, rowIn, dataIn, radialAt, radialCount}
 use Rattle.symbology.proofs.Containment.{damage-contained}
 use Rattle.symbology.proofs.Placement.{placed}
-use Rattle.symbology.proofs.DamageWords.{damage-in-words}
+use Rattle.symbology.proofs.Words.{damage-in-words}
 use Rattle.symbology.proofs.FirstBad.{firstBad, levels-are}
 use Rattle.sweep.specs.Sweep.{Accepted, sweepOf}
 use Rattle.sweep.specs.Demand3.{rowAt, Damaged, LowestBad, Names, Refuses, AllMake, Kept, Demand3}

@@ -20,8 +20,8 @@ use Rattle.symbology.specs.Places.{place, frameAt, Enough, Placed}
 use Rattle.symbology.specs.Words.{IsData}
 use Rattle.symbology.proofs.Placement.{placed}
 use Rattle.symbology.proofs.Containment.{data-length}
-use Rattle.symbology.proofs.Prefixes.{row-of-runs}
-use Rattle.symbology.proofs.Integers.{row-of-levels}
+use Rattle.symbology.proofs.Runs.{row-of-runs}
+use Rattle.symbology.proofs.Levels.{row-of-levels}
 use Rattle.sweep.specs.Sweep.{Accepted, sweepOf}
 use Rattle.sweep.specs.InWords.{RowInWords, InWords}
 use Rattle.sweep.proofs.Parts.{parts}

@@ -9,7 +9,7 @@ use lib.ListN.{length, getD, take, drop, replicate, length-append, length-take, 
 use lib.Seq.{take-append-add, take-append-le, take-all, take-at, length-take-le}
 use borrow.Rule.Slice.PartMut.{putMid}
 use Rattle.symbology.specs.Rows.{runOf, colourOf, reach, cells}
-use Rattle.symbology.proofs.Runs.{left-cons, Reached, reached-first, reached-end, reached-over, reached-turn}
+use Rattle.symbology.proofs.RunLoops.{left-cons, Reached, reached-first, reached-end, reached-over, reached-turn}
 
 -- the first n of m times v and more
 take-same : {A : Type 0} (n m : ℕ) (v : A) (l : List A) → n ≤ m → take n (replicate m v ++ l) ≡ replicate n v
@@ -26,7 +26,7 @@ spread-all v d h e =
 pub spread-block : {ys : List ℕ} (v : ℕ) (d : List ℕ) → 16 ≤ length d → ys ≡ replicate (length (take 16 d)) v → ys ++ drop 16 d ≡ replicate (min 16 (length d)) v ++ drop 16 d
 spread-block v d k e = let m : min 16 (length d) ≡ 16 = omega arith in rw (e, length-take-le 16 d k, m) refl
 
--- what `rle_write` needs of it
+-- what `write_runs` needs of it
 spread-front : {ys : List ℕ} (n v : ℕ) (d : List ℕ) → n ≤ 16 → n ≤ length d → ys ≡ replicate (min 16 (length d)) v ++ drop 16 d → take n ys ≡ replicate n v
 spread-front n v d h k e = rw e (take-same n (min 16 (length d)) v (drop 16 d) (omega arith))
 

@@ -32,10 +32,10 @@ pub fn write_row(packet: Packet, data: &[u8], row: &mut [u16])
 {
     match packet {
         Packet::Packet16 => {
-            bytes_write(data, row);
+            write_bytes(data, row);
         }
         Packet::PacketAf1f => {
-            rle_write(data, row);
+            write_runs(data, row);
         }
         Packet::Packet28 => {
             write_levels(data, row);
@@ -61,7 +61,7 @@ fn byte(buf: &[u8], i: usize) -> u32
 // ---- packet 16
 
 // The first bytes, one to each place of the row.
-fn bytes_write(src: &[u8], row: &mut [u16])
+fn write_bytes(src: &[u8], row: &mut [u16])
     requires { ⌜ length (now row) ≤ length (now src) ⌝ }
     ensures { λ _. ⌜ now (row .exit) ≡ take (length (now (row .entry))) (now (src .entry)) ⌝ }
 {
@@ -129,7 +129,7 @@ fn spread(part: &mut [u16], n: usize, v: u16)
 }
 
 // The runs' cells into the row, which they are known to fill.
-fn rle_write(runs: &[u8], row: &mut [u16])
+fn write_runs(runs: &[u8], row: &mut [u16])
     requires { ⌜ reach (length (now row)) (now runs) ≡ length (now row) ⌝ }
     ensures { λ _. ⌜ now (row .exit) ≡ take (length (now (row .entry))) (cells (now (runs .entry))) ⌝ }
 {

@@ -27,7 +27,7 @@ ghost use Rattle.symbology.specs.Walk.{inPart, Plots};
 
 const RADIAL_PACKET_CODE: u16 = 16;
 
-const RLE_PACKET_CODE: u16 = 0xAF1F;
+const AF1F_PACKET_CODE: u16 = 0xAF1F;
 
 const GENERIC_PACKET_CODE: u16 = 28;
 
@@ -131,7 +131,7 @@ fn plan(body: &[u8]) -> BodyPlan
     if code == RADIAL_PACKET_CODE {
         return plan_radial_packet(body, Packet::Packet16);
     }
-    if code == RLE_PACKET_CODE {
+    if code == AF1F_PACKET_CODE {
         return plan_radial_packet(body, Packet::PacketAf1f);
     }
     if code == GENERIC_PACKET_CODE {
