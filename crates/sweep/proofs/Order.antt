@@ -1,6 +1,6 @@
 -- The order of the tests, computed from the definitions. Assumes nothing.
 use mathlib.Core.Path.{refl}
-use lib.Ieee.{add, div, mul, le, neg, rem, ofInt, ofBits}
+use lib.Ieee.{add, div, mul, le, rem, ofInt, ofBits}
 use Rattle.bytes.specs.Bytes.{u16At, u32At, i16At, i32At, signed}
 use Rattle.bytes.specs.Float.{f32, f64}
 use Rattle.bytes.specs.Products.{codes, known}
@@ -12,7 +12,7 @@ use Rattle.scale.specs.Pdb.{valueScalingLinearHw}
 use Rattle.scale.specs.Physical.{scaleFields, declaredScale, physicalOf, valueOf}
 use Rattle.xdr.specs.Xdr.{int, float, string, stringBody, uint, word, short, pass, arrayCount, pointer, counted, listHead, elements, further, parameter}
 use Rattle.symbology.specs.Answers.{joined, pictureOf}
-use Rattle.symbology.specs.Centre.{centre, centre28, widthDegrees}
+use Rattle.symbology.specs.Centre.{centre, centre28}
 use Rattle.symbology.specs.Rows.{rowOf, row16, words, push, levels, row28}
 use Rattle.symbology.specs.Symbology.{symbology, packetOf, radialPacket, packetHeader, firstBin, isEmpty, overBody, radialWalk, radial, frame, covered, countWrong, genericPacket, bodyShort, payload, productBlock, component, componentHead, xdrRadials, xdrRadial, xdrWalk, xdrFrame, only}
 use Rattle.sweep.specs.Sweep.{headOf, allowed, roomFor, finish, sweepOf}

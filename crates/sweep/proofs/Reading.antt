@@ -1,20 +1,19 @@
 -- The sweep reading by way of symbology's entry, a law for each answer of the code. Assumes nothing.
 use Prim.Native.Nat.{ℕ, _*_, _≤_}
-use native.Mathlib.Omega.{arith}
 use mathlib.Core.List.{List, [], _∷_, map, _++_}
 use mathlib.Core.Bool.{Bool, true, false, not}
 use mathlib.Core.Path.{_≡_, refl, sym, ap, subst, _∙_}
 use lib.Dec.{ltb}
-use lib.ListN.{length, take, drop, length-map}
+use lib.ListN.{length, take, drop}
 use lib.Seq.{take-append-seam}
 use Rattle.bytes.specs.declared.error.Level3DecodeError.{Level3DecodeError}
 use lib.Ieee.{Float, le}
 use borrow.Author.Tests.{le-ltb, ltb-false}
 use Rattle.bytes.specs.Float.{f32}
-use Rattle.bytes.specs.Refusal.{Refusal, kind, float, buffer, refusalOf}
+use Rattle.bytes.specs.Refusal.{Refusal, kind, float, refusalOf}
 use Rattle.bytes.specs.Result.{Result, accepted, refused, refuse, then, lent}
 use Rattle.scale.specs.Outcome.{declaredScaleOf}
-use Rattle.scale.specs.Physical.{scaleFields, declaredScale, physicalOf, fillOf}
+use Rattle.scale.specs.Physical.{declaredScale, physicalOf, fillOf}
 use Rattle.scale.specs.declared.scaling.DeclaredLinearScale.{DeclaredLinearScale}
 use Rattle.scale.specs.declared.physical.Declared.{Declared}
 use Rattle.scale.specs.declared.physical.Declared.the-variants as Declared
@@ -32,7 +31,8 @@ use Rattle.symbology.specs.declared.figures.Packet.the-variants.{Packet16, Pack
 use Rattle.symbology.specs.declared.figures.Terms.{Terms}
 use Rattle.sweep.specs.declared.plan.Head.{Head}
 use Rattle.sweep.specs.declared.sweep.Sweep.{Sweep}
-use Rattle.sweep.proofs.Parts.{clash, one-value, through, passed, block-start}
+use Rattle.symbology.proofs.ResultLaws.{clash, one-value, through, passed}
+use Rattle.sweep.proofs.Parts.{block-start}
 use Rattle.symbology.proofs.RowPlaces.{codes-long}
 use Rattle.sweep.specs.Sweep.{headOf, allowed, roomFor, Accepted, finish, sweepOf, sweepIn, stepCheck, termsFor}
 

@@ -39,7 +39,7 @@ pub plots-as : (r : BodyPlan) (s : List ℕ) {R Q : Result (Given Sweep)} → R 
 plots-as r s e h = rw e h
 
 -- a plan of a part of the body
-pub plotted : {f : Figures} {at next from to : ℕ} {body : List ℕ} {R R' : Result (Given Sweep)} (p : Planned f at next (slice from to body) R) (end : ℕ) → from ≤ to → to ≤ length body
+plotted : {f : Figures} {at next from to : ℕ} {body : List ℕ} {R R' : Result (Given Sweep)} (p : Planned f at next (slice from to body) R) (end : ℕ) → from ≤ to → to ≤ length body
     → R' ≡ accepted (record { value = record { figures = f; azimuths = p .radials .value }; next = end; rows = p .radials .rows }) → Plotted f from to at body R'
 plotted p end o i w =
     record { radials = p .radials; end = end; small = p .small; cells = p .cells; ordered = o; inside = i; radials-are = p .radials-are; whole = w }

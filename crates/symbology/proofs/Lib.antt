@@ -1,3 +1,4 @@
+pub mod ResultLaws
 pub mod RowWords
 pub mod Every
 pub mod FirstBad

@@ -35,10 +35,10 @@ RowFn = ℕ × (List ℕ → Result (List ℕ))
 abbrev pub rowFn : Frame → RowFn
 rowFn f = (f .count, f .row)
 
-abbrev pub rowsIn : List Frame → List RowFn
+abbrev rowsIn : List Frame → List RowFn
 rowsIn = map rowFn
 
-abbrev pub marked : Items → List Piece
+abbrev marked : Items → List Piece
 marked items = map (λ (x : Label × ℕ). mark (x .0) (x .1)) items
 
 -- what may be said of an accepted path: its value and end, its rows and the items after it

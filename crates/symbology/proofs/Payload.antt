@@ -22,6 +22,7 @@ use Rattle.xdr.proofs.Plains.{plain-pass, plain-int, plain-float, plain-string,
 use Rattle.symbology.specs.Symbology.{Sweep, productBlock, xdrRadials, Gates28, componentHead, component, only, payload}
 use Rattle.symbology.specs.Walk.{anyWalk, onlyWhole, listed, position, reached, sweepFrom, Planned, Plans}
 use Rattle.symbology.specs.declared.figures.Figures.{Figures}
+use Rattle.symbology.proofs.ResultLaws.{one-value}
 use Rattle.symbology.specs.declared.spans.PlanRead.{PlanRead}
 use Rattle.symbology.specs.declared.spans.PlanRead.the-variants as PlanRead
 
@@ -70,7 +71,7 @@ counted-small (pos (suc n)) h k = (omega arith, ltb-false _ _ k)
 counted-small (negsuc n) h k = let z : _≡_ {A = ℕ} 0 1 = cc in absurd (omega arith)
 
 -- a head that passed has one to 100,000 radials
-pub head-small : (s : List ℕ) (p : ℕ) {h : Gates28} {q : ℕ} → passed h q ≡ walk componentHead s p → (0 < h .radials) × (h .radials ≤ 100000)
+head-small : (s : List ℕ) (p : ℕ) {h : Gates28} {q : ℕ} → passed h q ≡ walk componentHead s p → (0 < h .radials) × (h .radials ≤ 100000)
 unfolding componentHead
 head-small s p {h} {q} e =
     let a = parts _ _ s p e in
@@ -114,9 +115,6 @@ module _ (s : List ℕ) (p : ℕ) where
   component-small h = head-small s p (walk-of _ h)
 
 -- ---- plans
-
-accepted-inj : {A : Type 0} {a b : A} → accepted a ≡ accepted b → a ≡ b
-accepted-inj h = cc
 
 refused-run : {W A : Type 0} (t : Read W A) (s : List ℕ) (p : ℕ) {x : Refusal} → refused x ≡ position (walk t s p) → refused x ≡ run t s p
 refused-run {W} {A} t s p {x} h = go (walk t s p) refl h
@@ -190,7 +188,7 @@ module _ (s : List ℕ) (p : ℕ) where
   unfolding further _>>=_
   one-run {n} {g} h k = rw h (ap (λ t. run t s p) (first-then 0) ∙ run-goes _ component s p k)
 
-  pub left-over : {n : ℕ} {g : Given Sweep} → n ≡ 1 → run component s p ≡ accepted g → (length s - g .next ≡ 0 → ⊥)
+  left-over : {n : ℕ} {g : Given Sweep} → n ≡ 1 → run component s p ≡ accepted g → (length s - g .next ≡ 0 → ⊥)
       → refused (kind 35 (nat (length s - g .next) ∷ [])) ≡ run (listed n) s p
   unfolding prepend
   left-over {n} {g} h k l =
@@ -213,12 +211,12 @@ module _ {A : Type 0} (e : Flat A) (s : List ℕ) where
   more-length k a q {g} ih h =
       let b = run-parts (λ rest. give (a ∷ rest)) (further e k) s q h in
       let c : g .value ≡ b .second .value = ap (λ x. x .value) (b .whole) in
-      let d : b .second .value ≡ a ∷ b .first .value = ap (λ x. x .value) (sym (accepted-inj (b .second-is))) in
+      let d : b .second .value ≡ a ∷ b .first .value = ap (λ x. x .value) (sym (one-value (b .second-is))) in
       rw (c, d) (ap suc (ih q (b .first) (b .first-is)))
 
   further-length : (k p : ℕ) (g : Given (List A)) → run (further e k) s p ≡ accepted g → length (g .value) ≡ k
   unfolding further run _>>_
-  further-length zero p g h = ap (λ x. length (x .value)) (sym (accepted-inj h))
+  further-length zero p g h = ap (λ x. length (x .value)) (sym (one-value h))
   further-length (suc k) p g h =
       let a = run-parts (λ _. e >>= λ a. further e k >>= λ rest. give (a ∷ rest)) pointer s p h in
       let b = run-parts (λ a. further e k >>= λ rest. give (a ∷ rest)) e s (a .first .next) (a .second-is) in
@@ -232,7 +230,7 @@ module _ (s : List ℕ) (p n : ℕ) {g : Given Sweep} (more : 1 < n) (first : ru
       let e : n ≡ suc (n - 1) = omega (arith, more) in
       ap (λ k. run (elements component k >>= onlyWhole) s p) e ∙ ap (λ t. run t s p) (first-then s p (n - 1)) ∙ run-goes _ component s p first
 
-  pub further-refused : {x : Refusal} → refused x ≡ position (walk (further component (n - 1)) s (g .next)) → refused x ≡ run (listed n) s p
+  further-refused : {x : Refusal} → refused x ≡ position (walk (further component (n - 1)) s (g .next)) → refused x ≡ run (listed n) s p
   unfolding prepend
   further-refused {x} h =
       let e = refused-run (further component (n - 1)) s (g .next) h in
@@ -243,7 +241,7 @@ module _ (s : List ℕ) (p n : ℕ) {g : Given Sweep} (more : 1 < n) (first : ru
   stops [] q h = let z : n - 1 ≡ 0 = sym h in absurd (omega (arith, more, z))
   stops (b ∷ rest) q h = let z : suc (suc (length rest)) ≡ n = omega (arith, more, h) in rw z refl
 
-  pub too-many : {q : ℕ} → accepted q ≡ position (walk (further component (n - 1)) s (g .next)) → refused (kind 28 (nat n ∷ [])) ≡ run (listed n) s p
+  too-many : {q : ℕ} → accepted q ≡ position (walk (further component (n - 1)) s (g .next)) → refused (kind 28 (nat n ∷ [])) ≡ run (listed n) s p
   unfolding prepend
   too-many {q} h =
       let a = accepted-run (further component (n - 1)) s (g .next) h in

@@ -37,7 +37,7 @@ rows-of-accepted b g acc =
 -- ---- a row's place among the codes
 
 -- where each row has `bins` codes, row r stands at r × bins, whatever comes after the rows
-pub row-place : (bins : ℕ) (rows : List (List ℕ)) (rest : List ℕ) → ((r : ℕ) → r < length rows → length (getD rows r []) ≡ bins)
+row-place : (bins : ℕ) (rows : List (List ℕ)) (rest : List ℕ) → ((r : ℕ) → r < length rows → length (getD rows r []) ≡ bins)
     → (r : ℕ) → r < length rows → take bins (drop (r * bins) (joined rows ++ rest)) ≡ getD rows r []
 unfolding joined
 row-place bins [] rest h r lt = absurd (not-suc-le-zero lt)

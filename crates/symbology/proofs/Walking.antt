@@ -35,8 +35,8 @@ or-false : (a b : Bool) → a || b ≡ false → (a ≡ false) × (b ≡ false)
 or-false true b h = let z : _≡_ {A = ℕ} 0 1 = cc in absurd (omega arith)
 or-false false b h = (refl, h)
 
--- packets 16 and AF1F
-count-right : (packet : Packet) (bins count room : ℕ) → (packet ≡ Packet28 → ⊥) → countWrong packet bins count room ≡ false
+-- the data of a radial that passes its tests are inside the body, and enough for its row: packets 16 and AF1F
+pub count-right : (packet : Packet) (bins count room : ℕ) → (packet ≡ Packet28 → ⊥) → countWrong packet bins count room ≡ false
     → (covered packet count ≤ room) × Enough packet bins (covered packet count)
 unfolding countWrong covered Enough
 count-right Packet16 bins count room old h = let k = or-false _ _ h in (ltb-false _ _ (k .1), ltb-false _ _ (k .0))

@@ -1,4 +1,5 @@
--- The walk over the radials as the code goes, one for all packets. proofs/Walking.antt shows that it is the reading's.
+-- The walk over the radials as the code goes, one for all packets; it is the reading's (proofs/Bodies.antt `walk-is`, XdrRadials.antt
+-- `radials-are`). No public contract cites this file.
 use Prim.Native.Nat.{ℕ, zero, suc, _+_, _*_, _≤_}
 use mathlib.Core.List.{List, [], _∷_}
 use mathlib.Core.Path.{_≡_}

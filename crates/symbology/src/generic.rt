@@ -1,8 +1,4 @@
 // Packet 28: the generic data packet. Its payload is handed on as a part, and read by XDR items one after another.
-use crate::figures::Figures;
-use crate::figures::Geometry;
-use crate::figures::Packet;
-use crate::spans::Next;
 use crate::spans::SpanRead;
 use bytes::error::Level3DecodeError;
 use bytes::error::XdrItem;
@@ -14,9 +10,7 @@ ghost use mathlib.Core.Path.{_≡_};
 ghost use Prim.Native.Nat.{_*_, _≤_, _<_};
 ghost use mathlib.Core.Bool.{_&&_};
 ghost use lib.Dec.{eqb, ltb};
-ghost use lib.ListN.{length};
 ghost use Rattle.bytes.specs.Reading.{walk};
-ghost use Rattle.xdr.specs.Xdr.{atLeast0};
 ghost use Rattle.xdr.specs.Answers.{stepOf, from, after};
 ghost use Rattle.symbology.specs.Symbology.{productBlock, xdrFrame, componentHead};
 ghost use Rattle.symbology.specs.Walk.{expectedOf, xdrRadialSpan, placeOf, placed, xdrRadialOf, gatesOf, gatesThen, reached};

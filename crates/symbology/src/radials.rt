@@ -3,7 +3,7 @@ use crate::figures::Packet;
 use crate::spans::SpanRead;
 use bytes::error::Level3DecodeError;
 ghost use mathlib.Core.Path.{_≡_};
-ghost use Prim.Native.Nat.{_+_, _*_, _≤_, _<_};
+ghost use Prim.Native.Nat.{_*_, _≤_, _<_};
 ghost use mathlib.Core.Bool.{_||_};
 ghost use lib.Dec.{eqb, ltb};
 ghost use lib.ListN.{length};

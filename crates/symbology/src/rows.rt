@@ -191,7 +191,7 @@ fn all_levels(buf: &[u8]) -> bool
     ok
 }
 
-// The number of the first that is not, or of all.
+// The place of the first integer that is not a level, or how many there are.
 fn search_bad(buf: &[u8]) -> usize
     ensures { λ r. ⌜ r ≡ leading isLevel (words (now (buf .entry))) ⌝ }
 {

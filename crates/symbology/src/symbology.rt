@@ -14,14 +14,13 @@ use bytes::error::Buffer;
 use bytes::error::Level3DecodeError;
 use bytes::error::XdrItem;
 ghost use mathlib.Core.Path.{_≡_};
-ghost use mathlib.Core.Bool.{_&&_, not};
-ghost use Prim.Native.Nat.{_+_, _*_, _≤_};
+ghost use mathlib.Core.Bool.{_&&_};
+ghost use Prim.Native.Nat.{_*_, _≤_};
 ghost use lib.Dec.{eqb};
 ghost use lib.ListN.{length};
-ghost use lib.Seq.{slice};
 ghost use Rattle.bytes.specs.Result.{lent};
-ghost use Rattle.bytes.specs.Reading.{run, Given};
-ghost use Rattle.symbology.specs.Symbology.{Sweep, radialPacket, genericPacket, bodyShort, symbology};
+ghost use Rattle.bytes.specs.Reading.{run};
+ghost use Rattle.symbology.specs.Symbology.{radialPacket, genericPacket, bodyShort, symbology};
 ghost use Rattle.symbology.specs.Answers.{asked, tooFew, roomIn, admit, pictureOf, decodeFor, decodeOf, figuresIn, figuresOf, checkOf};
 ghost use Rattle.symbology.specs.Walk.{inPart, Plots};
 

@@ -6,12 +6,10 @@ use crate::spans::PlanRead;
 use crate::spans::SpanRead;
 use crate::trailing::Check;
 ghost use mathlib.Core.Path.{_≡_};
-ghost use mathlib.Core.List.{List};
-ghost use lib.Ieee.{Float};
 ghost use Prim.Native.Nat.{_*_, _≤_};
 ghost use lib.ListN.{length};
 ghost use Rattle.bytes.specs.Result.{accepted, lent};
-ghost use Rattle.bytes.specs.Reading.{walk, run, Given};
+ghost use Rattle.bytes.specs.Reading.{walk, run};
 ghost use Rattle.symbology.specs.Answers.{joined};
 ghost use Rattle.symbology.specs.Walk.{anyFrame, anyRadial, anyWalk, placeOf, placed, nextOf, position, Accepted, rowIn, centreIn, sweepFrom, Plans};
 
@@ -138,7 +136,8 @@ fn write_radial(
             crate::rows::write_row(packet, &s[from..to], row);
             Written { centre, next: to }
         }
-        SpanRead::Refused(error) => Written {
+        // Can't be: the check accepted this radial.
+        SpanRead::Refused(_) => Written {
             centre: 0.0,
             next: at,
         },

@@ -1,8 +1,6 @@
 use borrow.Author.Needs.{needs}
 use Rattle.sweep.proofs.plan.step_check.Statement.{statement}
 use Rattle.sweep.proofs.plan.step_check.Tie as tie
-use Rattle.sweep.proofs.plan.step_check.Reads as reads
-use Rattle.sweep.proofs.plan.step_check.Lts as lts
 
 enum-told : tie.Need-enum-told
 enum-told c = search needs

@@ -26,8 +26,8 @@ write-row-requires : tie.Need-write-row-requires
 write-row-requires c κs = let f = found _ _ _ _ _ _ (ap placeOf (sym (c .before .before .before .centre .given .1)) ∙ c .before .before .before .before .before .frame-span .ensures) in
     row-ready _ _ _ _ _ _ f (c .before .before .before .before .before .before .before .before .pre .1)
 
-enum-known-error : tie.Need-enum-known-error
-enum-known-error c = search needs
+enum-told : tie.Need-enum-told
+enum-told c = search needs
 
 same-length : tie.Need-same-length
 same-length c = search needs
@@ -37,7 +37,7 @@ returns c = let f = found _ _ _ _ _ _ (ap placeOf (sym (c .before .before .befor
     (centre-written _ _ _ _ _ _ f (c .before .before .before .before .before .before .before .before .before .before .before .pre .1), row-written _ _ _ _ _ _ f (c .before .before .before .before .before .before .before .before .before .before .before .pre .1) (c .before .before .write-row .ensures))
 
 returns-2 : tie.Need-returns-2
-returns-2 c = frame-there _ _ _ _ _ _ (c .before .before .before .before .before .before .pre .1) (ap placeOf (sym (c .before .error .given .1)) ∙ c .before .before .before .frame-span .ensures)
+returns-2 c = frame-there _ _ _ _ _ _ (c .before .before .before .before .before .pre .1) (ap placeOf (sym (c .enum-told .given .1)) ∙ c .before .before .frame-span .ensures)
 
 pub write-radial-spec : {M : Type 1} → statement M
 write-radial-spec =
@@ -49,7 +49,7 @@ write-radial-spec =
     part-write-row-start
     part-write-row-end
     write-row-requires
-    enum-known-error
+    enum-told
     same-length
     returns
     returns-2)
