@@ -14,21 +14,10 @@ use lib.Bits.{bitOr, and-le-l, and-le-r, or-lt, or-add-and}
 use lib.Seq.{drop-cons, drop-length}
 use Rattle.bytes.specs.Text.{all}
 use Rattle.bytes.proofs.Codes.{both}
+use Rattle.bytes.proofs.Counted.{counted}
 use Rattle.scale.specs.Legacy.{levelAt, levelsOf, sixteen}
 use Rattle.scale.specs.Physical.{hasLevel, levelOf, valueOf}
 use Rattle.scale.specs.declared.physical.Scaling.the-variants as Scaling
-
--- n numbers from a on
-abbrev count : ℕ → ℕ → List ℕ
-count a zero = []
-count a (suc n) = a ∷ count (suc a) n
-
-counted : {A : Type 0} (f : ℕ → A) (z : A) (n a k : ℕ) → k < n → getD (map f (count a n)) k z ≡ f (a + k)
-counted f z zero a k h = absurd (not-suc-le-zero h)
-counted f z (suc n) a zero h = ap f (sym (add-zero a))
-counted f z (suc n) a (suc k) h =
-    let e : suc a + k ≡ a + suc k = omega arith in
-    counted f z n (suc a) k (le-of-suc-le-suc h) ∙ ap f e
 
 pub sixteen-at : {A : Type 0} (f : ℕ → A) (z : A) (k : ℕ) → k < 16 → getD (map f sixteen) k z ≡ f k
 sixteen-at f z k h = counted f z 16 0 k h ∙ ap f (zero-add k)

@@ -23,12 +23,14 @@ use Rattle.symbology.specs.Symbology.{symbology}
 use Rattle.symbology.specs.Damage.{Changed, MakesRow, Contained, rowIn, dataIn, radialAt, radialCount}
 use Rattle.symbology.proofs.Containment.{damage-contained}
 use Rattle.symbology.proofs.Placement.{placed}
-use Rattle.symbology.proofs.DamageWords.{damage-in-words}
+use Rattle.symbology.proofs.Words.{damage-in-words}
 use Rattle.symbology.proofs.FirstBad.{firstBad, levels-are}
 use Rattle.sweep.specs.Sweep.{Accepted, sweepOf}
 use Rattle.sweep.specs.Demand3.{rowAt, Damaged, LowestBad, Names, Refuses, AllMake, Kept, Demand3}
-use Rattle.sweep.proofs.RowLaws.{row-values, row-here}
-use Rattle.sweep.proofs.Parts.{clash, block-start, with-codes, Parts, parts}
+use Rattle.symbology.proofs.RowPlaces.{row-here}
+use Rattle.sweep.proofs.RowLaws.{row-values}
+use Rattle.symbology.proofs.ResultLaws.{clash}
+use Rattle.sweep.proofs.Parts.{block-start, with-codes, Parts, parts}
 use Rattle.sweep.proofs.Lowest.{lowest-bad}
 
 -- a refusal of a radial's data names it

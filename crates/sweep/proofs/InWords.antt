@@ -3,7 +3,7 @@ use Prim.Native.Nat.{ℕ, _+_, _-_, _<_}
 use native.Mathlib.Omega.{arith}
 use native.Mathlib.Decide.{decLt}
 use mathlib.Core.List.{List}
-use mathlib.Core.Logic.{_↔_, Iff·rfl}
+use mathlib.Core.Logic.{_↔_}
 use mathlib.Core.Path.{_≡_, refl, subst}
 use lib.ListN.{length, getD, take, length-take, length-drop, List·getD-eq-default}
 use lib.Seq.{slice, getD-take, getD-drop}
@@ -15,13 +15,13 @@ use Rattle.symbology.specs.declared.figures.Figures.{Figures}
 use Rattle.symbology.specs.Rows.{rowOf, row16}
 use Rattle.symbology.specs.Symbology as Symbology
 use Rattle.symbology.specs.Symbology.{symbology}
-use Rattle.symbology.specs.Damage.{DataByte, rowIn, dataIn, radialAt}
-use Rattle.symbology.specs.Places.{place, frameAt, Enough, Placed}
-use Rattle.symbology.specs.Words.{IsData}
+use Rattle.symbology.specs.Damage.{rowIn, dataIn, radialAt}
+use Rattle.symbology.specs.Places.{Enough, Placed}
 use Rattle.symbology.proofs.Placement.{placed}
+use Rattle.symbology.proofs.Words.{byte-in-words}
 use Rattle.symbology.proofs.Containment.{data-length}
-use Rattle.symbology.proofs.Prefixes.{row-of-runs}
-use Rattle.symbology.proofs.Integers.{row-of-levels}
+use Rattle.symbology.proofs.Runs.{row-of-runs}
+use Rattle.symbology.proofs.Levels.{row-of-levels}
 use Rattle.sweep.specs.Sweep.{Accepted, sweepOf}
 use Rattle.sweep.specs.InWords.{RowInWords, InWords}
 use Rattle.sweep.proofs.Parts.{parts}
@@ -43,13 +43,6 @@ row-in-words PacketAf1f bins r bytes enough small = row-of-runs bins r bytes .ro
 row-in-words Packet28 bins r bytes enough small = row-of-levels bins r bytes enough small .row
 
 module _ (b b' : List ℕ) (a : Symbology.Sweep) (q : Placed b a) where
-  byte-in-words : (packet : Packet) → a .figures .packet ≡ packet → (r i : ℕ) → r < a .figures .«n_radials»
-      → DataByte (radialAt symbology b r) i ↔ IsData packet b r i
-  unfolding IsData place frameAt
-  byte-in-words Packet16 e r i lt = rw (q .frames (λ h. let z : _≡_ {A = ℕ} 0 1 = cc in omega arith) r lt, e) Iff·rfl
-  byte-in-words PacketAf1f e r i lt = rw (q .frames (λ h. let z : _≡_ {A = ℕ} 0 1 = cc in omega arith) r lt, e) Iff·rfl
-  byte-in-words Packet28 e r i lt = rw (q .data28 e r lt) Iff·rfl
-
   -- radial r has as many data bytes in the second body
   second-count : length b' ≡ length b → (r : ℕ) → length (dataIn symbology b r b') ≡ radialAt symbology b r .count
   unfolding dataIn
@@ -60,8 +53,8 @@ module _ (b b' : List ℕ) (a : Symbology.Sweep) (q : Placed b a) where
   words-of long small =
       record {
         changed = λ r lt. (
-          λ c. (c .at, byte-in-words (a .figures .packet) refl r (c .at) lt .0 (c .data-byte), c .differs),
-          λ w. record { at = w .0; data-byte = byte-in-words (a .figures .packet) refl r (w .0) lt .1 (w .1); differs = w .2 },
+          λ c. (c .at, byte-in-words b a q (a .figures .packet) refl r (c .at) lt .0 (c .data-byte), c .differs),
+          λ w. record { at = w .0; data-byte = byte-in-words b a q (a .figures .packet) refl r (w .0) lt .1 (w .1); differs = w .2 },
         );
         makes-row = λ r lt.
             rw (q .rows r lt)

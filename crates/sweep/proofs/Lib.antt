@@ -1,6 +1,5 @@
 pub mod Order
 pub mod RowLaws
-pub mod Centres
 pub mod Parts
 pub mod Lowest
 pub mod Demand3

@@ -1,13 +1,11 @@
 -- An accepted sweep: the head, the body and the picture that it came from, and how many places it fills. Assumes nothing.
 use Prim.Native.Nat.{ℕ, _+_, _*_}
-use native.Mathlib.Omega.{arith}
 use mathlib.Core.List.{List, map}
-use mathlib.Core.Bool.{Bool, true, false, not}
+use mathlib.Core.Bool.{not}
 use mathlib.Core.Path.{_≡_, refl, sym, ap, _∙_, subst}
 use lib.ListN.{length, length-map}
 use lib.Ieee.{Float}
-use Rattle.bytes.specs.Refusal.{Refusal}
-use Rattle.bytes.specs.Result.{Result, accepted, refused, refuse, then}
+use Rattle.bytes.specs.Result.{accepted}
 use Rattle.bytes.specs.Reading.{Given, run}
 use Rattle.head.specs.Header.{token, messageHeader, scanTime}
 use Rattle.head.specs.Pdb.{pdbFields}
@@ -19,25 +17,9 @@ use Rattle.symbology.specs.Symbology as Symbology
 use Rattle.symbology.specs.Symbology.{symbology}
 use Rattle.sweep.specs.declared.plan.Head.{Head}
 use Rattle.sweep.specs.Sweep.{headOf, allowed, roomFor, Accepted, finish, sweepOf}
-use Rattle.sweep.proofs.RowLaws.{codes-long}
-use Rattle.sweep.proofs.Centres.{centred}
-
--- a refusal is no acceptance
-pub clash : {A B : Type 0} (a : A) (x : Refusal) → _≡_ {A = Result A} (refused x) (accepted a) → B
-clash a x h = absurd (let z : _≡_ {A = ℕ} 0 1 = cc in omega arith)
-
-pub one-value : {A : Type 0} {a b : A} → _≡_ {A = Result A} (accepted a) (accepted b) → a ≡ b
-one-value h = cc
-
--- what was accepted came through each step
-module _ {A B C : Type 0} where
-  pub through : (r : Result A) (f : A → Result B) (b : B) → then r f ≡ accepted b → ((a : A) → r ≡ accepted a → f a ≡ accepted b → C) → C
-  through (accepted a) f b h k = k a refl h
-  through (refused x) f b h k = clash b x h
-
-pub passed : {A C : Type 0} (t : Bool) (x : Refusal) (r : Result A) (a : A) → refuse t x r ≡ accepted a → (t ≡ false → r ≡ accepted a → C) → C
-passed true x r a h k = clash a x h
-passed false x r a h k = k refl h
+use Rattle.symbology.proofs.ResultLaws.{one-value, through, passed}
+use Rattle.symbology.proofs.RowPlaces.{codes-long}
+use Rattle.symbology.proofs.Centres.{centred}
 
 -- the block starts at message header + 18, and the scale fields are read from there
 pub block-start : (scheme : Scheme) (file : List ℕ) (clock : ℕ) (h : Head) → headOf scheme file clock ≡ accepted h

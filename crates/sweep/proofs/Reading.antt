@@ -1,24 +1,28 @@
 -- The sweep reading by way of symbology's entry, a law for each answer of the code. Assumes nothing.
 use Prim.Native.Nat.{ℕ, _*_, _≤_}
-use native.Mathlib.Omega.{arith}
-use mathlib.Core.List.{List, [], map, _++_}
+use mathlib.Core.List.{List, [], _∷_, map, _++_}
 use mathlib.Core.Bool.{Bool, true, false, not}
 use mathlib.Core.Path.{_≡_, refl, sym, ap, subst, _∙_}
 use lib.Dec.{ltb}
-use lib.ListN.{length, take, drop, length-map}
+use lib.ListN.{length, take, drop}
 use lib.Seq.{take-append-seam}
 use Rattle.bytes.specs.declared.error.Level3DecodeError.{Level3DecodeError}
-use lib.Ieee.{Float}
+use lib.Ieee.{Float, le}
 use borrow.Author.Tests.{le-ltb, ltb-false}
-use Rattle.bytes.specs.Refusal.{Refusal, kind, buffer, refusalOf}
+use Rattle.bytes.specs.Float.{f32}
+use Rattle.bytes.specs.Refusal.{Refusal, kind, float, refusalOf}
 use Rattle.bytes.specs.Result.{Result, accepted, refused, refuse, then, lent}
 use Rattle.scale.specs.Outcome.{declaredScaleOf}
-use Rattle.scale.specs.Physical.{scaleFields, declaredScale, physicalOf, fillOf}
+use Rattle.scale.specs.Physical.{declaredScale, physicalOf, fillOf}
+use Rattle.scale.specs.declared.scaling.DeclaredLinearScale.{DeclaredLinearScale}
 use Rattle.scale.specs.declared.physical.Declared.{Declared}
+use Rattle.scale.specs.declared.physical.Declared.the-variants as Declared
 use Rattle.scale.specs.declared.physical.DeclaredScaleRead.{DeclaredScaleRead}
 use Rattle.scale.specs.declared.physical.DeclaredScaleRead.the-variants as DeclaredScaleRead
+use Rattle.scale.specs.declared.physical.Scaling.{Scaling}
+use Rattle.scale.specs.declared.physical.Scaling.the-variants as Scaling
 use Rattle.scale.specs.declared.physical.Scheme.{Scheme}
-use Rattle.symbology.specs.Answers.{Picture, pictureOf, asked, tooFew, roomIn, admit, decodeFor, figuresIn, checkOf}
+use Rattle.symbology.specs.Answers.{Picture, pictureOf, asked, tooFew, stepOf, roomIn, admit, decodeFor, figuresIn}
 use Rattle.symbology.specs.Symbology.{symbology}
 use Rattle.bytes.specs.Reading.{run}
 use Rattle.symbology.specs.declared.figures.Figures.{Figures}
@@ -27,17 +31,32 @@ use Rattle.symbology.specs.declared.figures.Packet.the-variants.{Packet16, Pack
 use Rattle.symbology.specs.declared.figures.Terms.{Terms}
 use Rattle.sweep.specs.declared.plan.Head.{Head}
 use Rattle.sweep.specs.declared.sweep.Sweep.{Sweep}
-use Rattle.sweep.proofs.Parts.{clash, one-value, through, passed, block-start}
-use Rattle.sweep.proofs.RowLaws.{codes-long}
-use Rattle.sweep.specs.Sweep.{headOf, allowed, roomFor, Accepted, finish, sweepOf, sweepIn, scaleCheck, termsFor}
+use Rattle.symbology.proofs.ResultLaws.{clash, one-value, through, passed}
+use Rattle.sweep.proofs.Parts.{block-start}
+use Rattle.symbology.proofs.RowPlaces.{codes-long}
+use Rattle.sweep.specs.Sweep.{headOf, allowed, roomFor, Accepted, finish, sweepOf, sweepIn, stepCheck, termsFor}
 
 -- ---- what is asked of a body on the terms of a scheme
 
-asked-is : (scheme : Scheme) (d : DeclaredScaleRead) (np : ℕ) (packet : Packet) → asked (termsFor scheme d np) packet ≡ allowed scheme packet
+asked-is : (scheme : Scheme) (s : Scaling) (d : DeclaredScaleRead) (np : ℕ) (packet : Packet) → asked (termsFor scheme s d np) packet ≡ allowed scheme packet
 unfolding asked termsFor
-asked-is scheme d np Packet16 = refl
-asked-is scheme d np PacketAf1f = refl
-asked-is scheme d np Packet28 = refl
+asked-is scheme s d np Packet16 = refl
+asked-is scheme s d np PacketAf1f = refl
+asked-is scheme s d np Packet28 = refl
+
+-- the step's test is the declared scale's
+step-is : (s : Scaling) (d : DeclaredScaleRead) → declaredScaleOf d ≡ declaredScale s → stepOf (stepCheck s d) ≡ then (declaredScaleOf d) (λ _. accepted tt)
+unfolding declaredScale
+step-is s (DeclaredScaleRead.Value declared) h = refl
+step-is (Scaling.Linear s) (DeclaredScaleRead.Refused e) h = by (le (s .«value_increment») (f32 0 1)) _ h
+  where
+    by : (b : Bool) (y : DeclaredLinearScale) → refused (refusalOf e) ≡ then (refuse b (kind 9 (float (s .«value_increment») ∷ [])) (accepted y)) (λ x. accepted (Declared.Scale x))
+        → _≡_ {A = Result (Unit {0})} (refused (kind 9 (float (s .«value_increment») ∷ []))) (refused (refusalOf e))
+    by true y k = cc
+    by false y k = clash (Declared.Scale y) (refusalOf e) k
+step-is (Scaling.Precip p) (DeclaredScaleRead.Refused e) h = clash _ _ h
+step-is (Scaling.Legacy at post) (DeclaredScaleRead.Refused e) h = clash _ _ h
+step-is Scaling.Class (DeclaredScaleRead.Refused e) h = clash _ _ h
 
 -- what acceptance gives
 abbrev swept : Scheme → List ℕ → Head → Picture → Declared → Accepted
@@ -52,7 +71,7 @@ swept scheme file h p declared =
 module _ (scheme : Scheme) (file : List ℕ) (h : Head) (na nc np : ℕ) where
   by-declared : (b : Bool) (d : DeclaredScaleRead) (room : Result (Unit {0})) (p : Picture)
       → refuse b (kind 10 []) (then (declaredScaleOf d) λ declared. then room λ _. accepted (swept scheme file h p declared))
-      ≡ then (then (refuse b (kind 10 []) (then (checkOf (scaleCheck d)) λ _. room)) λ _. accepted p) λ q. then (declaredScaleOf d) λ declared. accepted (swept scheme file h q declared)
+      ≡ then (then (refuse b (kind 10 []) (then (then (declaredScaleOf d) λ _. accepted (tt {0})) λ _. room)) λ _. accepted p) λ q. then (declaredScaleOf d) λ declared. accepted (swept scheme file h q declared)
   by-declared true d room p = refl
   by-declared false (DeclaredScaleRead.Refused e) room p = refl
   by-declared false (DeclaredScaleRead.Value declared) (accepted u) p = refl
@@ -60,9 +79,9 @@ module _ (scheme : Scheme) (file : List ℕ) (h : Head) (na nc np : ℕ) where
 
   finish-is : (d : DeclaredScaleRead) → declaredScaleOf d ≡ declaredScale (h .scaling) → (p : Picture)
       → finish scheme file na nc np h p
-      ≡ then (then (admit (termsFor scheme d np) na nc (p .figures)) λ _. accepted p) λ q. then (declaredScaleOf d) λ declared. accepted (swept scheme file h q declared)
+      ≡ then (then (admit (termsFor scheme (h .scaling) d np) na nc (p .figures)) λ _. accepted p) λ q. then (declaredScaleOf d) λ declared. accepted (swept scheme file h q declared)
   unfolding finish admit roomIn roomFor tooFew termsFor
-  finish-is d e p = rw (← e, asked-is scheme d np (p .figures .packet)) (by-declared (not (allowed scheme (p .figures .packet))) d (roomFor na nc np (p .figures)) p)
+  finish-is d e p = rw (asked-is scheme (h .scaling) d np (p .figures .packet), step-is (h .scaling) d e, ← e) (by-declared (not (allowed scheme (p .figures .packet))) d (roomFor na nc np (p .figures)) p)
 
 -- ---- a picture that was read
 
@@ -85,15 +104,15 @@ many body p e =
     let same = one-value y in
     ap (λ (q : Picture). length (q .codes)) (sym same) ∙ codes-long body g eg (p .figures) (ap (λ (q : Picture). q .figures) same)
 
-passed-value : {C : Type 0} (d : DeclaredScaleRead) (r : Result (Unit {0})) → then (checkOf (scaleCheck d)) (λ _. r) ≡ accepted tt
+passed-value : {C : Type 0} (d : DeclaredScaleRead) (r : Result (Unit {0})) → then (then (declaredScaleOf d) (λ _. accepted (tt {0}))) (λ _. r) ≡ accepted tt
     → ((declared : Declared) → d ≡ DeclaredScaleRead.Value declared → r ≡ accepted tt → C) → C
 passed-value (DeclaredScaleRead.Value declared) r e k = k declared refl e
 passed-value (DeclaredScaleRead.Refused x) r e k = clash tt (refusalOf x) e
 
 -- what is known once a body was read on the terms of a scheme
-pub record Drawn (scheme : Scheme) (d : DeclaredScaleRead) (body : List ℕ) (na nc np : ℕ) (f : Figures) : Type 0 where
+pub record Drawn (scheme : Scheme) (s : Scaling) (d : DeclaredScaleRead) (body : List ℕ) (na nc np : ℕ) (f : Figures) : Type 0 where
   pub picture : Picture
-  pub is : decodeFor (termsFor scheme d np) body na nc ≡ accepted picture
+  pub is : decodeFor (termsFor scheme s d np) body na nc ≡ accepted picture
   pub figures : picture .figures ≡ f
   pub many : length (picture .codes) ≡ f .«n_radials» * f .«n_bins»
   pub declared : Declared
@@ -101,21 +120,21 @@ pub record Drawn (scheme : Scheme) (d : DeclaredScaleRead) (body : List ℕ) (na
   pub codes-room : f .«n_radials» * f .«n_bins» ≤ nc
   pub physical-room : f .«n_radials» * f .«n_bins» ≤ np
 
-pub drawn : (scheme : Scheme) (d : DeclaredScaleRead) (body : List ℕ) (na nc np : ℕ) {f : Figures} → accepted f ≡ figuresIn (decodeFor (termsFor scheme d np) body na nc)
-    → Drawn scheme d body na nc np f
+pub drawn : (scheme : Scheme) (s : Scaling) (d : DeclaredScaleRead) → declaredScaleOf d ≡ declaredScale s → (body : List ℕ) (na nc np : ℕ) {f : Figures}
+    → accepted f ≡ figuresIn (decodeFor (termsFor scheme s d np) body na nc) → Drawn scheme s d body na nc np f
 unfolding decodeFor admit roomIn tooFew termsFor
-drawn scheme d body na nc np {f} e =
-    let g = given-figures (decodeFor (termsFor scheme d np) body na nc) e in
+drawn scheme s d is body na nc np {f} e =
+    let g = given-figures (decodeFor (termsFor scheme s d np) body na nc) e in
     let p = g .0 in
     through (pictureOf body) _ p (g .1) λ q eq e₁.
-    through (admit (termsFor scheme d np) na nc (q .figures)) _ p e₁ λ u ea e₂.
+    through (admit (termsFor scheme s d np) na nc (q .figures)) _ p e₁ λ u ea e₂.
     let same = one-value e₂ in
-    passed (not (asked (termsFor scheme d np) (q .figures .packet))) _ _ tt ea λ _ e₃.
-    passed-value d _ e₃ λ declared ed e₄.
+    passed (not (asked (termsFor scheme s d np) (q .figures .packet))) _ _ tt ea λ _ e₃.
+    passed-value d _ (rw (step-is s d is) at e₃) λ declared ed e₄.
     passed (ltb na (q .figures .«n_radials»)) _ _ tt e₄ λ _ e₅.
     passed (ltb nc (q .figures .«n_radials» * q .figures .«n_bins»)) _ _ tt e₅ λ c e₆.
     passed (ltb np (q .figures .«n_radials» * q .figures .«n_bins»)) _ _ tt e₆ λ v _.
-    subst (Drawn scheme d body na nc np) (ap (λ (x : Picture). x .figures) same ∙ g .2)
+    subst (Drawn scheme s d body na nc np) (ap (λ (x : Picture). x .figures) same ∙ g .2)
     (record {
       picture = q;
       is = g .1 ∙ ap accepted (sym same);
@@ -157,7 +176,7 @@ module _ (scheme : Scheme) (file : List ℕ) (clock : ℕ) (body : List ℕ) (az
 
   -- the head is read, the terms are made of it, and the body is read on them
   module _ (h : Head) (d : DeclaredScaleRead) (t : Terms) (eh : accepted h ≡ headOf scheme file clock) (ed : declaredScaleOf d ≡ declaredScale (h .scaling))
-      (et : t ≡ termsFor scheme d (length ph)) where
+      (et : t ≡ termsFor scheme (h .scaling) d (length ph)) where
     abbrev D : Result Picture
     D = decodeFor t body (length az) (length cs)
 
@@ -168,7 +187,7 @@ module _ (scheme : Scheme) (file : List ℕ) (clock : ℕ) (body : List ℕ) (az
       where
         by : (z : Result Picture)
             → then z (finish scheme file (length az) (length cs) (length ph) h)
-            ≡ then (then z λ p. then (admit (termsFor scheme d (length ph)) (length az) (length cs) (p .figures)) λ _. accepted p)
+            ≡ then (then z λ p. then (admit (termsFor scheme (h .scaling) d (length ph)) (length az) (length cs) (p .figures)) λ _. accepted p)
             λ p. then (declaredScaleOf d) λ declared. accepted (swept scheme file h p declared)
         by (accepted p) = finish-is scheme file h (length az) (length cs) (length ph) d ed p
         by (refused x) = refl
@@ -188,14 +207,14 @@ pub record Decoded (scheme : Scheme) (file : List ℕ) (clock : ℕ) (body : Lis
     : Type 0 where
   pub head-is : accepted h ≡ headOf scheme file clock
   pub declared-is : declaredScaleOf d ≡ declaredScale (h .scaling)
-  pub terms-are : t ≡ termsFor scheme d (length ph)
+  pub terms-are : t ≡ termsFor scheme (h .scaling) d (length ph)
   pub figures-are : accepted f ≡ figuresIn (decodeFor t body (length az) (length cs))
 
 module _ {scheme : Scheme} {file : List ℕ} {clock : ℕ} {body : List ℕ} {az : List Float} {cs : List ℕ} {ph : List Float} {h : Head} {d : DeclaredScaleRead} {t : Terms} {f : Figures}
     (w : Decoded scheme file clock body az cs ph h d t f) where
-  pub drawn-here : Drawn scheme d body (length az) (length cs) (length ph) f
+  pub drawn-here : Drawn scheme (h .scaling) d body (length az) (length cs) (length ph) f
   drawn-here =
-      drawn scheme d body (length az) (length cs) (length ph)
+      drawn scheme (h .scaling) d (w .declared-is) body (length az) (length cs) (length ph)
       (w .figures-are ∙ ap (λ x. figuresIn (decodeFor x body (length az) (length cs))) (w .terms-are))
 
   drawn-is : decodeFor t body (length az) (length cs) ≡ accepted (drawn-here .picture)

@@ -11,7 +11,7 @@ use Rattle.bytes.specs.Result.{accepted, refused}
 use Rattle.bytes.specs.declared.error.Buffer.the-variants as Buffer
 use Rattle.scale.specs.declared.physical.Scheme.the-variants as Scheme
 use Rattle.scale.specs.declared.physical.Declared.the-variants as Declared
-use Rattle.symbology.specs.Table.{two, oneRadial, generic, noList, twoStrips}
+use Rattle.symbology.specs.Table.{two, oneRadial, generic, noList, twoXdrRadials}
 use Rattle.symbology.specs.declared.figures.Packet.the-variants.{Packet16}
 use Rattle.symbology.specs.declared.figures.Geometry.the-variants.{RangeScale}
 use Rattle.sweep.specs.Sweep.{sweepOf}
@@ -43,7 +43,7 @@ pub record Order : Type 0 where
   -- a short body and no room: 12
   pub body-before-room : sweepOf Scheme.Class product 0 (replicate 17 0) 0 0 0 ≡ refused (kind 12 (nat 17 ∷ []))
   -- packet 28 under the halfword scheme, with the step 0 and no room: 10
-  pub packet-before-step : sweepOf Scheme.Halfword product 0 (generic noList twoStrips) 0 0 0 ≡ refused (kind 10 [])
+  pub packet-before-step : sweepOf Scheme.Halfword product 0 (generic noList twoXdrRadials) 0 0 0 ≡ refused (kind 10 [])
   -- packet 16 with the step 0 and no room: 9
   pub step-before-room : sweepOf Scheme.Halfword product 0 body16 0 0 0 ≡ refused (kind 9 (float (f32 0 10) ∷ []))
   -- no room in any buffer, in codes and physical values, in the last alone: 36

@@ -13,6 +13,8 @@ use Rattle.head.specs.Pdb.{pdbFields}
 use Rattle.scale.specs.Physical.{scaleFields, declaredScale, physicalOf}
 use Rattle.scale.specs.declared.physical.Scheme.{Scheme}
 use Rattle.scale.specs.declared.physical.Scheme.the-variants as Scheme
+use Rattle.scale.specs.declared.physical.Scaling.{Scaling}
+use Rattle.scale.specs.declared.physical.Scaling.the-variants as Scaling
 use Rattle.scale.specs.declared.physical.DeclaredScaleRead.{DeclaredScaleRead}
 use Rattle.scale.specs.declared.physical.DeclaredScaleRead.the-variants as DeclaredScaleRead
 use Rattle.symbology.specs.Answers.{Picture, pictureOf}
@@ -21,8 +23,8 @@ use Rattle.symbology.specs.declared.figures.Packet.the-variants.{Packet16, Pack
 use Rattle.symbology.specs.declared.figures.Figures.{Figures}
 use Rattle.symbology.specs.declared.figures.Terms.{Terms}
 use Rattle.symbology.specs.declared.figures.Room.the-variants as Room
-use Rattle.symbology.specs.declared.trailing.Check.{Check}
-use Rattle.symbology.specs.declared.trailing.Check.the-variants as Check
+use Rattle.symbology.specs.declared.figures.StepCheck.{StepCheck}
+use Rattle.symbology.specs.declared.figures.StepCheck.the-variants as StepCheck
 use Rattle.sweep.specs.declared.plan.Head.{Head}
 use Rattle.sweep.specs.declared.plan.HeadRead.{HeadRead}
 use Rattle.sweep.specs.declared.plan.HeadRead.the-variants as HeadRead
@@ -103,17 +105,20 @@ headReadOf (HeadRead.Refused e) = refused (refusalOf e)
 
 -- ---- what the code asks of a body
 
--- the check of the declared scale
-abbrev pub scaleCheck : DeclaredScaleRead → Check
-scaleCheck (DeclaredScaleRead.Value d) = Check.Passed
-scaleCheck (DeclaredScaleRead.Refused e) = Check.Refused e
+-- what the declared scale's check says of the step: only halfword and float have one that can be refused (9)
+abbrev pub stepCheck : Scaling → DeclaredScaleRead → StepCheck
+stepCheck scaling (DeclaredScaleRead.Value d) = StepCheck.Passed
+stepCheck (Scaling.Linear s) (DeclaredScaleRead.Refused e) = StepCheck.NotPositive (s .«value_increment»)
+stepCheck (Scaling.Precip p) (DeclaredScaleRead.Refused e) = StepCheck.Passed
+stepCheck (Scaling.Legacy at post) (DeclaredScaleRead.Refused e) = StepCheck.Passed
+stepCheck Scaling.Class (DeclaredScaleRead.Refused e) = StepCheck.Passed
 
-unfoldable pub termsFor : Scheme → DeclaredScaleRead → ℕ → Terms
-termsFor scheme declared np =
+unfoldable pub termsFor : Scheme → Scaling → DeclaredScaleRead → ℕ → Terms
+termsFor scheme scaling declared np =
     record {
       packet16 = allowed scheme Packet16;
       «packet_af1f» = allowed scheme PacketAf1f;
       packet28 = allowed scheme Packet28;
-      scale = scaleCheck declared;
+      step = stepCheck scaling declared;
       physical = Room.Places np;
     }

@@ -10,10 +10,10 @@ use scale::physical::ScalingRead;
 use scale::physical::Scheme;
 use symbology::figures::Packet;
 use symbology::figures::Room;
+use symbology::figures::StepCheck;
 use symbology::figures::Terms;
-use symbology::trailing::Check;
 ghost use mathlib.Core.Path.{_≡_};
-ghost use Rattle.sweep.specs.Sweep.{headOf, allowed, headReadOf, scaleCheck, termsFor};
+ghost use Rattle.sweep.specs.Sweep.{headOf, allowed, headReadOf, stepCheck, termsFor};
 
 // What the file says. The token stands at `token`: product there, site three bytes on. The block starts at `block`.
 pub struct Head {
@@ -87,24 +87,38 @@ pub fn is_allowed(scheme: Scheme, packet: Packet) -> bool
     }
 }
 
-fn scale_check(declared: DeclaredScaleRead) -> Check
-    ensures { λ r. ⌜ r ≡ scaleCheck declared ⌝ }
+// What the declared scale's check says of the step, of which halfword and float have one.
+fn step_check(scaling: Scaling, declared: DeclaredScaleRead) -> StepCheck
+    ensures { λ r. ⌜ r ≡ stepCheck scaling declared ⌝ }
 {
     match declared {
-        DeclaredScaleRead::Value(_) => Check::Passed,
-        DeclaredScaleRead::Refused(e) => Check::Refused(e),
+        DeclaredScaleRead::Value(_) => StepCheck::Passed,
+        DeclaredScaleRead::Refused(_) => match scaling {
+            Scaling::Linear(s) => StepCheck::NotPositive(s.value_increment),
+            Scaling::Precip(_) => StepCheck::Passed,
+            Scaling::Legacy {
+                at: _,
+                post_scale: _,
+            } => StepCheck::Passed,
+            Scaling::Class => StepCheck::Passed,
+        },
     }
 }
 
 // The terms on which a body is read: 10 by the scheme, 9 by the declared scale, 36 by the room for physical values.
-pub fn terms_for(scheme: Scheme, declared: DeclaredScaleRead, physical: usize) -> Terms
-    ensures { λ r. ⌜ r ≡ termsFor scheme declared physical ⌝ }
+pub fn terms_for(
+    scheme: Scheme,
+    scaling: Scaling,
+    declared: DeclaredScaleRead,
+    physical: usize,
+) -> Terms
+    ensures { λ r. ⌜ r ≡ termsFor scheme scaling declared physical ⌝ }
 {
     Terms {
         packet16: is_allowed(scheme, Packet::Packet16),
         packet_af1f: is_allowed(scheme, Packet::PacketAf1f),
         packet28: is_allowed(scheme, Packet::Packet28),
-        scale: scale_check(declared),
+        step: step_check(scaling, declared),
         physical: Room::Places(physical),
     }
 }

@@ -50,7 +50,7 @@ pub fn read_sweep(
     let fields = head.fields;
     let scaling = head.scaling;
     let read = scale::physical::declared_scale(scaling);
-    let terms = crate::plan::terms_for(scheme, read, physical.len());
+    let terms = crate::plan::terms_for(scheme, scaling, read, physical.len());
     let figures = match symbology::symbology::decode_for(body, terms, azimuths, codes) {
         FiguresRead::Value(f) => f,
         FiguresRead::Refused(e) => return SweepAnswer::Refused(e),

@@ -26,7 +26,7 @@ module _ (packet : Packet) (radials bins r : ℕ) (s : List ℕ) (p : ℕ) where
       ≡ cond (ltb (length s - p) 6) (halted (kind 19 (nat r ∷ nat radials ∷ [])) p)
       (cond (eqb (u16At s (p + 4)) 0 || ltb 100 (u16At s (p + 4))) (halted (kind 20 (nat r ∷ float (widthDegrees (u16At s (p + 4))) ∷ [])) (p + 6))
       (cond (countWrong packet bins (u16At s p) (length s - (p + 6))) (halted (kind 21 (nat r ∷ nat (u16At s p) ∷ nat bins ∷ [])) (p + 6))
-      (passed (record { azimuth = centre (u16At s (p + 2)) (u16At s (p + 4)); size = covered packet (u16At s p) }) (p + 6))))
+      (passed (record { centre = centre (u16At s (p + 2)) (u16At s (p + 4)); size = covered packet (u16At s p) }) (p + 6))))
   unfolding beamSpan frame remaining u16 walk _>>=_ _>>_
   beam-is =
       let e : p + 2 + 2 ≡ p + 4 = omega arith in
@@ -51,7 +51,7 @@ module _ (packet : Packet) (radials bins r : ℕ) (s : List ℕ) (p : ℕ) where
         beam-wrong h = rw (beam-is, ← left, ← w, ← c, ← wd, ← rest, ← wr) (simp (le-ltb _ _ six, narrow, h))
 
         pub beam-whole : {start n : ℕ} {a : Float} → wrong ≡ false → start ≡ u16At s (p + 2) → a ≡ centre start width → n ≡ covered packet count
-            → accepted (record { azimuth = a; from = p + 6; to = p + 6 + n }) ≡ placed (walk (beamSpan packet radials bins r) s p)
+            → accepted (record { centre = a; from = p + 6; to = p + 6 + n }) ≡ placed (walk (beamSpan packet radials bins r) s p)
         beam-whole h st k m = rw (beam-is, ← left, ← w, ← c, ← wd, ← rest, ← wr, ← st) (simp (le-ltb _ _ six, narrow, h, k, m))
 
 -- ---- the packet header

@@ -23,8 +23,8 @@ use Rattle.xdr.specs.Xdr.{atLeast0}
 use Rattle.symbology.specs.Symbology.{Sweep, Header, frame, radial, radialWalk, firstBin, isEmpty, overBody, packetHeader, radialPacket, payload, bodyShort, genericPacket, packetOf, symbology}
 use Rattle.symbology.specs.Walk.{beamSpan, anyFrame, anyRadial, anyWalk, firstOf, sweepFrom, Planned, Plotted, Plots, inPart, Plans}
 use Rattle.symbology.proofs.Beams.{header-is}
-use Rattle.symbology.proofs.Integers.{signed-low, signed-high, u32-small}
-use Rattle.symbology.proofs.Strips28.{sweep-run}
+use Rattle.symbology.proofs.Levels.{signed-low, signed-high, u32-small}
+use Rattle.symbology.proofs.XdrRadials.{sweep-run}
 use Rattle.symbology.specs.declared.figures.Figures.{Figures}
 use Rattle.symbology.specs.declared.spans.PlanRead.{PlanRead}
 use Rattle.symbology.specs.declared.spans.PlanRead.the-variants as PlanRead
@@ -39,7 +39,7 @@ pub plots-as : (r : BodyPlan) (s : List ℕ) {R Q : Result (Given Sweep)} → R 
 plots-as r s e h = rw e h
 
 -- a plan of a part of the body
-pub plotted : {f : Figures} {at next from to : ℕ} {body : List ℕ} {R R' : Result (Given Sweep)} (p : Planned f at next (slice from to body) R) (end : ℕ) → from ≤ to → to ≤ length body
+plotted : {f : Figures} {at next from to : ℕ} {body : List ℕ} {R R' : Result (Given Sweep)} (p : Planned f at next (slice from to body) R) (end : ℕ) → from ≤ to → to ≤ length body
     → R' ≡ accepted (record { value = record { figures = f; azimuths = p .radials .value }; next = end; rows = p .radials .rows }) → Plotted f from to at body R'
 plotted p end o i w =
     record { radials = p .radials; end = end; small = p .small; cells = p .cells; ordered = o; inside = i; radials-are = p .radials-are; whole = w }
@@ -65,7 +65,7 @@ walk-is : (packet : Packet) (radials bins n r : ℕ) → (packet ≡ Packet28 �
 unfolding radialWalk anyWalk
 walk-is packet radials bins zero r old = refl
 walk-is packet radials bins (suc n) r old =
-    ap₂ (λ t u. t >>= λ azimuth. u >>= λ azimuths. give (azimuth ∷ azimuths)) (radial-is packet radials bins r old) (walk-is packet radials bins n (suc r) old)
+    ap₂ (λ t u. t >>= λ first. u >>= λ azimuths. give (first ∷ azimuths)) (radial-is packet radials bins r old) (walk-is packet radials bins n (suc r) old)
 
 plain-first : (packet : Packet) → Plain (firstBin packet)
 unfolding firstBin

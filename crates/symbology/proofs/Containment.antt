@@ -12,6 +12,7 @@ use Rattle.bytes.specs.Bytes.{u16At, u32At}
 use Rattle.bytes.specs.Refusal.{Refusal}
 use Rattle.bytes.specs.Result.{Result, accepted, refused}
 use Rattle.bytes.specs.Reading.{Read, give, stop, left, skip, number, data-row, within, Width, half, word, size, valueAt, Given, more, after-row, run, Frame, frames, Unread}
+use Rattle.symbology.proofs.ResultLaws.{clash}
 use Rattle.symbology.specs.Damage.{noFrame, rowIn, dataIn, DataByte, radialCount, radialAt, Damage, Changed, MakesRow, Contained}
 
 -- ---- the two halves of a reading: what its structure gives, and the rows
@@ -256,17 +257,14 @@ in-data [] r i h b = absurd (not-suc-le-zero h)
 in-data (f ∷ fs) zero i h b = inl b
 in-data (f ∷ fs) (suc r) i h b = inr (in-data fs r i (le-of-suc-le-suc h) b)
 
-accepted≢refused : {A : Type 0} (a : A) (x : Refusal) → _≡_ {A = Result A} (accepted a) (refused x) → ⊥
-accepted≢refused a x h = let z : _≡_ {A = ℕ} 0 1 = cc in omega arith
-
 module _ {A : Type 0} where
   join-accepted : (rs : Result (List (List ℕ))) (e : Result (A × ℕ)) (g : Given A) → join rs e ≡ accepted g → (rs ≡ accepted (g .rows)) × (e ≡ accepted (g .value, g .next))
   unfolding join
   join-accepted (accepted rows) (accepted (a, n)) g h =
       let e : _≡_ {A = Given A} (record { value = a; next = n; rows = rows }) g = cc in
       (ap (λ (x : Given A). accepted (x .rows)) e, ap (λ (x : Given A). accepted (x .value, x .next)) e)
-  join-accepted (accepted rows) (refused x) g h = absurd (accepted≢refused g x (sym h))
-  join-accepted (refused x) e g h = absurd (accepted≢refused g x (sym h))
+  join-accepted (accepted rows) (refused x) g h = clash g x h
+  join-accepted (refused x) e g h = clash g x h
 
 module _ {W A : Type 0} where
   -- both halves of an accepted body
@@ -280,7 +278,7 @@ module _ {W A : Type 0} where
   unfolding radialAt radialCount
   accepted-rows t s g acc =
       let h = halves t s g acc .0 in
-      let a : AllRows s (frames t s 0) = ⊎-elim (λ a. a) (λ b. absurd (accepted≢refused (g .rows) (b .why) (sym h ∙ b .is))) (outcome s (frames t s 0)) in
+      let a : AllRows s (frames t s 0) = ⊎-elim (λ a. a) (λ b. clash (g .rows) (b .why) (sym (b .is) ∙ h)) (outcome s (frames t s 0)) in
       let c = sym (a .is) ∙ h in
       let e : a .rows ≡ g .rows = cc in
       (ap length (sym e) ∙ a .len, λ r lt. a .each r lt ∙ ap (λ (l : List (List ℕ)). accepted (getD l r [])) e)
@@ -331,19 +329,19 @@ module _ {W A : Type 0} where
     unfolding join
     first-bad b = second ∙ rw (b .is) refl
 
-    clash : (f : Frame) (codes : List ℕ) (x : Refusal) → rowIn f s' ≡ accepted codes → rowIn f s' ≡ refused x → ⊥
-    clash f codes x p q = accepted≢refused codes x (sym p ∙ q)
+    not-both : (f : Frame) (codes : List ℕ) (x : Refusal) → rowIn f s' ≡ accepted codes → rowIn f s' ≡ refused x → ⊥
+    not-both f codes x p q = clash codes x (sym q ∙ p)
 
     -- the radial that stops the second reading is changed
     bad-changed : (b : FirstBad s' (frames t s 0)) → Changed t s s' (b .at)
     unfolding radialAt radialCount
-    bad-changed b = ⊎-elim (λ m. absurd (clash _ _ _ m (b .here))) (λ c. c) (makes-or-changed (b .at) (b .lt))
+    bad-changed b = ⊎-elim (λ m. absurd (not-both _ _ _ m (b .here))) (λ c. c) (makes-or-changed (b .at) (b .lt))
 
     exactly→ : (x : Refusal) → run t s' 0 ≡ refused x → AllRows s' (frames t s 0) ⊎ FirstBad s' (frames t s 0)
         → (r : ℕ) × (r < radialCount t s) × Changed t s s' r × ¬ (MakesRow t s s' r)
     unfolding radialAt radialCount
-    exactly→ x e (inl a) = absurd (accepted≢refused _ x (sym (all-rows a) ∙ e))
-    exactly→ x e (inr b) = (b .at, b .lt, bad-changed b, λ m. clash _ _ _ (m .1) (b .here))
+    exactly→ x e (inl a) = clash _ x (sym e ∙ all-rows a)
+    exactly→ x e (inr b) = (b .at, b .lt, bad-changed b, λ m. not-both _ _ _ (m .1) (b .here))
 
     exactly← : (r : ℕ) → r < radialCount t s → ¬ (MakesRow t s s' r) → AllRows s' (frames t s 0) ⊎ FirstBad s' (frames t s 0)
         → (x : Refusal) × (run t s' 0 ≡ refused x)
@@ -354,12 +352,12 @@ module _ {W A : Type 0} where
     lowest : (r : ℕ) (x : Refusal) → r < radialCount t s → rowIn (radialAt t s r) s' ≡ refused x
         → ((q : ℕ) → q < r → Changed t s s' q → MakesRow t s s' q) → AllRows s' (frames t s 0) ⊎ FirstBad s' (frames t s 0) → run t s' 0 ≡ refused x
     unfolding radialAt radialCount
-    lowest r x lt e low (inl a) = absurd (clash _ _ _ (a .each r lt) e)
+    lowest r x lt e low (inl a) = absurd (not-both _ _ _ (a .each r lt) e)
     lowest r x lt e low (inr b) = by (decLt (b .at) r) (decLt r (b .at))
       where
         by : Dec (b .at < r) → Dec (r < b .at) → run t s' 0 ≡ refused x
-        by (yes h) k = absurd (clash _ _ _ (low (b .at) h (bad-changed b) .1) (b .here))
-        by (no h) (yes k) = absurd (clash _ _ _ (b .before r k .1) e)
+        by (yes h) k = absurd (not-both _ _ _ (low (b .at) h (bad-changed b) .1) (b .here))
+        by (no h) (yes k) = absurd (not-both _ _ _ (b .before r k .1) e)
         by (no h) (no k) =
             let q : r ≡ b .at = omega arith in
             let z : rowIn (getD (frames t s 0) (b .at) noFrame) s' ≡ refused x = rw q at e in
@@ -372,7 +370,7 @@ module _ {W A : Type 0} where
         × ((r : ℕ) → r < radialCount t s → ¬ (Changed t s s' r) → getD (g' .rows) r [] ≡ getD (g .rows) r [])
         × ((r : ℕ) → r < radialCount t s → Changed t s s' r → rowIn (radialAt t s r) s' ≡ accepted (getD (g' .rows) r []))
     unfolding radialAt radialCount
-    otherwise h (inr b) = absurd (clash _ _ _ (h (b .at) (b .lt) (bad-changed b) .1) (b .here))
+    otherwise h (inr b) = absurd (not-both _ _ _ (h (b .at) (b .lt) (bad-changed b) .1) (b .here))
     otherwise h (inl a) = (
       record { value = g .value; next = g .next; rows = a .rows },
       all-rows a,

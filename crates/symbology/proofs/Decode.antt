@@ -1,7 +1,6 @@
 -- What a plan and the terms say of a body's picture, a law for each answer of the code. Assumes nothing.
 use Prim.Native.Nat.{ℕ, _*_, _-_, _≤_}
-use native.Mathlib.Omega.{arith}
-use mathlib.Core.List.{List, [], _∷_}
+use mathlib.Core.List.{List}
 use mathlib.Core.Bool.{Bool, true, false, not}
 use mathlib.Core.Path.{_≡_, refl, sym, ap, subst, _∙_}
 use lib.ListN.{length, take, drop}
@@ -10,20 +9,20 @@ use lib.IntN.{ℤ, pos}
 use lib.Signed.{ltZ}
 use lib.Ieee.{Float}
 use borrow.Author.Tests.{ltb-false}
-use Rattle.bytes.specs.Refusal.{Refusal, kind, buffer, refusalOf}
-use Rattle.bytes.specs.Result.{Result, accepted, refused, refuse, then, lent}
+use Rattle.bytes.specs.Refusal.{Refusal, refusalOf}
+use Rattle.bytes.specs.Result.{Result, accepted, refused, then, lent}
 use Rattle.bytes.specs.Reading.{run, Given}
 use Rattle.bytes.proofs.Readings.{part-slice}
 use Rattle.xdr.specs.Xdr.{atLeast0}
 use Rattle.bytes.specs.declared.error.Level3DecodeError.{Level3DecodeError}
-use Rattle.bytes.specs.declared.error.Buffer.the-variants as Buffer
 use Rattle.symbology.specs.Symbology.{Sweep, bodyShort, symbology}
-use Rattle.symbology.specs.Answers.{checkOf, Picture, joined, pictureOf, asked, roomIn, admit, decodeFor, figuresIn}
+use Rattle.symbology.specs.Answers.{stepOf, Picture, joined, pictureOf, asked, roomIn, admit, decodeFor, figuresIn}
 use Rattle.symbology.specs.Walk.{anyWalk, Plotted, Plots}
 use Rattle.symbology.specs.declared.figures.Figures.{Figures}
 use Rattle.symbology.specs.declared.figures.Terms.{Terms}
-use Rattle.symbology.specs.declared.trailing.Check.{Check}
-use Rattle.symbology.specs.declared.trailing.Check.the-variants as Check
+use Rattle.symbology.specs.declared.figures.StepCheck.{StepCheck}
+use Rattle.symbology.specs.declared.figures.StepCheck.the-variants as StepCheck
+use Rattle.symbology.proofs.ResultLaws.{through, passed}
 use Rattle.symbology.specs.declared.spans.BodyPlan.{BodyPlan}
 use Rattle.symbology.specs.declared.spans.BodyPlan.the-variants as BodyPlan
 
@@ -72,27 +71,20 @@ radials-there body {f} {from} {to} {at} p = rw (part-slice body from to (p .orde
 
 -- ---- on terms
 
-refuse-passed : {A : Type 0} (b : Bool) (x : Refusal) (r : Result A) {a : A} → accepted a ≡ refuse b x r → (b ≡ false) × (accepted a ≡ r)
-refuse-passed true x r h = let z : _≡_ {A = ℕ} 0 1 = cc in absurd (omega arith)
-refuse-passed false x r h = (refl, h)
-
-scale-passed : {A : Type 0} (c : Check) (r : Result A) {a : A} → accepted a ≡ then (checkOf c) (λ _. r) → accepted a ≡ r
-scale-passed Check.Passed r h = h
-scale-passed (Check.Refused e) r h = let z : _≡_ {A = ℕ} 0 1 = cc in absurd (omega arith)
-
 pub admit-room : (t : Terms) (na nc : ℕ) (f : Figures) → accepted tt ≡ admit t na nc f → (f .«n_radials» ≤ na) × (f .«n_radials» * f .«n_bins» ≤ nc)
 unfolding admit roomIn
 admit-room t na nc f h =
-    let s = refuse-passed (not (asked t (f .packet))) (kind 10 []) _ h .1 in
-    let a = refuse-passed (ltb na (f .«n_radials»)) (kind 36 (buffer Buffer.Azimuths ∷ [])) _ (scale-passed (t .scale) _ s) in
-    let b = refuse-passed (ltb nc (f .«n_radials» * f .«n_bins»)) (kind 36 (buffer Buffer.Codes ∷ [])) _ (a .1) in
-    (ltb-false _ _ (a .0), ltb-false _ _ (b .0))
+    passed (not (asked t (f .packet))) _ _ tt (sym h) λ _ e₁.
+    through (stepOf (t .step)) _ tt e₁ λ _ _ e₂.
+    passed (ltb na (f .«n_radials»)) _ _ tt e₂ λ a e₃.
+    passed (ltb nc (f .«n_radials» * f .«n_bins»)) _ _ tt e₃ λ b _.
+    (ltb-false _ _ a, ltb-false _ _ b)
 
--- the other way: where the packet is asked for and the scale passed, the room decides
+-- the other way: where the packet is asked for and the step passed, the room decides
 pub admit-fine : (t : Terms) (na nc : ℕ) (f : Figures) {asks : Bool} {r : Result (Unit {0})} → asks ≡ asked t (f .packet) → not asks ≡ false
-    → t .scale ≡ Check.Passed → r ≡ roomIn t na nc (f .«n_radials») (f .«n_radials» * f .«n_bins») → r ≡ admit t na nc f
+    → t .step ≡ StepCheck.Passed → r ≡ roomIn t na nc (f .«n_radials») (f .«n_radials» * f .«n_bins») → r ≡ admit t na nc f
 unfolding admit
-admit-fine t na nc f a y i h = rw (← a) (simp y (h ∙ sym (ap (λ c. then (checkOf c) λ _. roomIn t na nc (f .«n_radials») (f .«n_radials» * f .«n_bins»)) i)))
+admit-fine t na nc f a y i h = rw (← a) (simp y (h ∙ sym (ap (λ c. then (stepOf c) λ _. roomIn t na nc (f .«n_radials») (f .«n_radials» * f .«n_bins»)) i)))
 
 -- the figures, and the buffers that held az and cs
 abbrev Answered : Result Picture → List Float → List ℕ → Result Figures → List Float → List ℕ → Type 0

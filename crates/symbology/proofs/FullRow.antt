@@ -3,25 +3,20 @@ use Prim.Native.Nat.{ℕ, _+_, _-_, _≤_}
 use native.Mathlib.Omega.{arith}
 use mathlib.Core.List.{List, [], _∷_, _++_}
 use mathlib.Core.Bool.{Bool, true, false, not, cond}
-use mathlib.Core.Path.{_≡_, refl, sym, ap, _∙_}
+use mathlib.Core.Path.{_≡_, sym, ap, _∙_}
 use lib.ListN.{length, replicate, length-append, length-replicate}
 use lib.Seq.{length-take-le}
 use lib.Dec.{leb, eqb}
 use borrow.Author.Tests.{eqb-true, not-false}
-use Rattle.bytes.specs.Refusal.{Refusal}
-use Rattle.bytes.specs.Result.{Result, accepted, refuse}
+use Rattle.bytes.specs.Result.{accepted}
 use Rattle.bytes.specs.Text.{all}
 use Rattle.symbology.specs.Rows.{runOf, colourOf, reach, cells, row16, rowAF1F, words, isLevel, row28, rowOf, codesOf, FullRow}
 use Rattle.symbology.specs.Places.{Enough}
 use Rattle.symbology.specs.declared.figures.Packet.{Packet}
 use Rattle.symbology.specs.declared.figures.Packet.the-variants.{Packet16, PacketAf1f, Packet28}
-use Rattle.symbology.proofs.Words.{words-length}
+use Rattle.symbology.proofs.ResultLaws.{passed}
+use Rattle.symbology.proofs.RowWords.{words-length}
 use Rattle.symbology.proofs.FirstBad.{levels-are}
-
--- what was accepted passed the test
-passed : {A : Type 0} (b : Bool) (x : Refusal) (r : Result A) (a : A) → refuse b x r ≡ accepted a → (b ≡ false) × (r ≡ accepted a)
-passed true x r a h = let z : _≡_ {A = ℕ} 0 1 = cc in absurd (omega arith)
-passed false x r a h = (refl, h)
 
 -- the cells are as many as the runs reach, at least
 reach-cells : (n : ℕ) (runs : List ℕ) → reach n runs ≤ length (cells runs)
@@ -48,11 +43,9 @@ pub row-made : (packet : Packet) (n radial : ℕ) (bytes codes : List ℕ) → r
 unfolding rowOf row16 rowAF1F row28 codesOf
 row-made Packet16 n radial bytes codes e = (tt, cc)
 row-made PacketAf1f n radial bytes codes e =
-    let p = passed (not (eqb (reach n bytes) n)) _ _ codes e in
-    (eqb-true _ _ (not-false _ (p .0)), let q = p .1 in cc)
+    passed (not (eqb (reach n bytes) n)) _ _ codes e λ t q. (eqb-true _ _ (not-false _ t), cc)
 row-made Packet28 n radial bytes codes e =
-    let p = passed (not (all isLevel (words bytes))) _ _ codes (sym (levels-are radial 0 (words bytes)) ∙ e) in
-    (not-false _ (p .0), let q = p .1 in cc)
+    passed (not (all isLevel (words bytes))) _ _ codes (sym (levels-are radial 0 (words bytes)) ∙ e) λ t q. (not-false _ t, cc)
 
 -- data that were enough and have passed make a row of n codes
 full : (packet : Packet) (n : ℕ) (bytes : List ℕ) → Enough packet n (length bytes) → Passed packet n bytes

@@ -14,10 +14,10 @@ use Rattle.bytes.specs.Result.{Result, accepted, refused, then}
 use Rattle.bytes.specs.Text.{all, leading}
 use Rattle.bytes.proofs.Walks.{Walk, walk-first, front, front-next, front-stop, front-end}
 use Rattle.symbology.specs.Rows.{words, isLevel, levels}
-use Rattle.symbology.proofs.Words.{words-length, words-at}
+use Rattle.symbology.proofs.RowWords.{words-length, words-at}
 use Rattle.symbology.proofs.Every.{not-all}
 use Rattle.symbology.proofs.FirstBad.{each-level, levels-are}
-use Rattle.symbology.proofs.Runs.{left-cons}
+use Rattle.symbology.proofs.RunLoops.{left-cons}
 
 -- integer i, where some are left
 word-here : (s : List ℕ) (i left : ℕ) → i + left ≡ length s / 4 → 0 < left → (i < length (words s)) × (getD (words s) i 0 ≡ u32At s (i * 4))

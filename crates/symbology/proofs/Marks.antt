@@ -23,7 +23,7 @@ use Rattle.xdr.specs.Xdr as Xdr
 use Rattle.xdr.specs.Xdr.{short, pass, uint, int, padding, stringBody, string, arrayCount, pointer, atLeast0, listHead, further, elements, counted, parameter}
 use Rattle.symbology.specs.Places.{Label, string-body, string-padding, product-number, list-count, list-pointer, array-count, array-body, mark, Items, stringItems, furtherItems, elementItems, listItems, parameterItems, numbers, productItems, radialItems, radialsItems, componentItems}
 use Rattle.symbology.specs.Rows.{rowOf}
-use Rattle.symbology.specs.Symbology.{Sweep, productBlock, Strip, xdrFrame, xdrRadial, xdrWalk, xdrRadials, radialComponent, component, only, payload, genericPacket}
+use Rattle.symbology.specs.Symbology.{Sweep, productBlock, XdrRadial, xdrFrame, xdrRadial, xdrWalk, xdrRadials, Gates28, componentHead, component, only, payload, genericPacket}
 use Rattle.symbology.specs.declared.figures.Packet.the-variants.{Packet28}
 use Rattle.symbology.proofs.Containment.{value-same}
 use Rattle.symbology.proofs.Path.{Post, Ends, then, tested, weaken, after, table}
@@ -35,10 +35,10 @@ RowFn = ℕ × (List ℕ → Result (List ℕ))
 abbrev pub rowFn : Frame → RowFn
 rowFn f = (f .count, f .row)
 
-abbrev pub rowsIn : List Frame → List RowFn
+abbrev rowsIn : List Frame → List RowFn
 rowsIn = map rowFn
 
-abbrev pub marked : Items → List Piece
+abbrev marked : Items → List Piece
 marked items = map (λ (x : Label × ℕ). mark (x .0) (x .1)) items
 
 -- what may be said of an accepted path: its value and end, its rows and the items after it
@@ -244,9 +244,9 @@ module _ (b : List ℕ) (m : ℕ) where
 
   module _ (radials r : ℕ) (expected : ℕ → ℕ) where
     -- after a frame stands the body of its array, whose count is the number of bins
-    Framed : (ℕ → Items) → Said Strip
-    Framed rest strip e rs later =
-        (rs ≡ []) × (later ≡ (array-body, strip .bins * 4) ∷ rest (e + strip .bins * 4)) × (strip .bins * 4 ≤ length (take m b) - e) × (strip .bins ≡ expected (strip .bins))
+    Framed : (ℕ → Items) → Said XdrRadial
+    Framed rest xdr e rs later =
+        (rs ≡ []) × (later ≡ (array-body, xdr .bins * 4) ∷ rest (e + xdr .bins * 4)) × (xdr .bins * 4 ≤ length (take m b) - e) × (xdr .bins ≡ expected (xdr .bins))
 
     at-frame : (p : ℕ) (rest : ℕ → Items) → At (xdrFrame radials r expected) p (radialItems b rest p) (Framed rest)
     unfolding xdrFrame radialItems _>>_ mark Framed
@@ -267,18 +267,18 @@ module _ (b : List ℕ) (m : ℕ) where
         count q = unfold arrayCount in one-then _ one-uint (at-test _ _ _ λ h25. at-short _ _ _ λ room. at-give _ (refl, room, refl))
 
     -- a radial: one row, of the bins that it says
-    Rowed : (ℕ → Items) → Said Strip
-    Rowed rest strip e rs later = (rs ≡ levelRow (strip .bins) r ∷ []) × (later ≡ rest e) × (strip .bins ≡ expected (strip .bins))
+    Rowed : (ℕ → Items) → Said XdrRadial
+    Rowed rest xdr e rs later = (rs ≡ levelRow (xdr .bins) r ∷ []) × (later ≡ rest e) × (xdr .bins ≡ expected (xdr .bins))
 
     at-radial : (p : ℕ) (rest : ℕ → Items) → At (xdrRadial radials r expected) p (radialItems b rest p) (Rowed rest)
     unfolding xdrRadial _>>_ Framed Rowed
-    at-radial p rest = at-then (at-frame p rest) λ strip e rs later h. rw (h .0, h .1) (at-data _ _ (h .2) (at-give strip (refl, refl, h .3)))
+    at-radial p rest = at-then (at-frame p rest) λ xdr e rs later h. rw (h .0, h .1) (at-data _ _ (h .2) (at-give xdr (refl, refl, h .3)))
 
   at-walk : (radials bins n r p : ℕ) (rest : ℕ → Items) → At (xdrWalk radials bins n r) p (radialsItems b n rest p) (λ l e rs later. (rs ≡ table (levelRow bins) n r) × (later ≡ rest e))
   unfolding xdrWalk radialsItems table Rowed
   at-walk radials bins zero r p rest = at-give [] (refl, refl)
   at-walk radials bins (suc n) r p rest =
-      at-then (at-radial radials r _ p (radialsItems b n rest)) λ strip e rs later h.
+      at-then (at-radial radials r _ p (radialsItems b n rest)) λ xdr e rs later h.
       rw (h .1)
       (at-then (at-walk radials bins n (suc r) e rest) λ l e' rs' later' h'.
       at-give _ (simp append-nil (rw (h .0, h .2, h' .0) refl), h' .1))
@@ -290,15 +290,18 @@ module _ (b : List ℕ) (m : ℕ) where
   at-radials : (n : ℕ) (gateWidth firstGate : Float) (p : ℕ) (rest : ℕ → Items) → At (xdrRadials (suc n) gateWidth firstGate) p (radialsItems b (suc n) rest p) (Swept rest)
   unfolding xdrRadials radialsItems table Rows28 Rowed
   at-radials n gateWidth firstGate p rest =
-      at-then (at-radial (suc n) 0 _ p (radialsItems b n rest)) λ strip e rs later h.
+      at-then (at-radial (suc n) 0 _ p (radialsItems b n rest)) λ xdr e rs later h.
       let z : suc n - 1 ≡ n = omega arith in
       rw (h .1, z)
-      (at-then (at-walk (suc n) (strip .bins) n 1 e rest) λ l e' rs' later' h'.
+      (at-then (at-walk (suc n) (xdr .bins) n 1 e rest) λ l e' rs' later' h'.
       at-give _ ((refl, simp append-nil (rw (h .0, h' .0) refl)), h' .1))
 
-  at-component : (p : ℕ) (rest : ℕ → Items) → At component p (componentItems b rest p) (Swept rest)
-  unfolding component radialComponent componentItems _>>_ mark
-  at-component p rest =
+  -- after a head stand the radials, of which there is one
+  at-head : (p : ℕ) (rest : ℕ → Items)
+      → At componentHead p (componentItems b rest p)
+      (λ (h : Gates28) e rs later. (rs ≡ []) × (later ≡ radialsItems b (h .radials) rest e) × ((n : ℕ) × (h .radials ≡ suc n)))
+  unfolding componentHead componentItems _>>_ mark
+  at-head p rest =
       one-then _ one-int
       (at-test _ _ _ λ h27.
       quiet-then (at-string _ _) λ _ e₁.
@@ -307,8 +310,11 @@ module _ (b : List ℕ) (m : ℕ) where
       one-then _ one-int
       (at-test _ _ _ λ h29.
       at-test _ _ _ λ h30.
-      let k = positive (i32At b q) h29 in
-      rw (k .1) (at-radials (k .0) _ _ _ rest)))))
+      at-give _ (refl, refl, positive (i32At b q) h29)))))
+
+  at-component : (p : ℕ) (rest : ℕ → Items) → At component p (componentItems b rest p) (Swept rest)
+  unfolding component
+  at-component p rest = at-then (at-head p rest) λ h e rs later q. rw (q .0, q .1, q .2 .1) (at-radials (q .2 .0) _ _ e rest)
 
   at-only : (l : List Sweep) (rs : List RowFn) (p : ℕ) → Joined Rows28 l rs → At (only l) p [] (λ a e rs' later. Rows28 a (rs ++ rs') × (later ≡ []))
   unfolding only Joined Rows28 Ends

@@ -1,15 +1,15 @@
 -- The cells of AF1F runs, written block over block: the first gate places are written, and what is left of the cells makes the rest of
 -- the row. Assumes nothing.
-use Prim.Native.Nat.{ℕ, _+_, _-_, _≤_, _<_}
+use Prim.Native.Nat.{ℕ, _+_, _-_, _≤_, _<_, min}
 use native.Mathlib.Nat.{sub-zero}
 use native.Mathlib.Omega.{arith}
-use mathlib.Core.List.{List, [], _∷_, _++_, append-assoc, append-nil}
+use mathlib.Core.List.{List, _∷_, _++_, append-assoc, append-nil}
 use mathlib.Core.Path.{_≡_, refl, sym, ap, _∙_}
-use lib.ListN.{length, getD, take, drop, replicate, length-append, length-drop, length-replicate, replicate-append-replicate}
+use lib.ListN.{length, getD, take, drop, replicate, length-append, length-take, length-drop, length-replicate, replicate-append-replicate, drop-of-length-le}
 use lib.Seq.{take-append-add, take-append-le, take-all, take-at, length-take-le}
 use borrow.Rule.Slice.PartMut.{putMid}
 use Rattle.symbology.specs.Rows.{runOf, colourOf, reach, cells}
-use Rattle.symbology.proofs.Runs.{left-cons, Reached, reached-first, reached-end, reached-over, reached-turn}
+use Rattle.symbology.proofs.RunLoops.{left-cons, Reached, reached-first, reached-end, reached-over, reached-turn}
 
 -- the first n of m times v and more
 take-same : {A : Type 0} (n m : ℕ) (v : A) (l : List A) → n ≤ m → take n (replicate m v ++ l) ≡ replicate n v
@@ -18,11 +18,17 @@ take-same n m v l h =
     rw (e, ← (replicate-append-replicate n (m - n) v), append-assoc) (take-at (replicate n v) _ n (length-replicate n v))
 
 -- `spread`: the whole part is filled, or a block of 16
-pub spread-all : {ys : List ℕ} (n v : ℕ) (d : List ℕ) → n ≤ length d → ys ≡ replicate (length d) v → take n ys ≡ replicate n v
-spread-all n v d h e = rw (e, ← (append-nil (replicate (length d) v))) (take-same n (length d) v [] h)
+pub spread-all : {ys : List ℕ} (v : ℕ) (d : List ℕ) → length d < 16 → ys ≡ replicate (length d) v → ys ≡ replicate (min 16 (length d)) v ++ drop 16 d
+spread-all v d h e =
+    let m : min 16 (length d) ≡ length d = omega arith in
+    rw (e, m, drop-of-length-le d {i = 16} (omega arith)) (sym (append-nil (replicate (length d) v)))
 
-pub spread-block : {ys : List ℕ} (n v : ℕ) (d : List ℕ) → n ≤ 16 → 16 ≤ length d → ys ≡ replicate (length (take 16 d)) v → take n (ys ++ drop 16 d) ≡ replicate n v
-spread-block n v d h k e = rw (e, length-take-le 16 d k) (take-same n 16 v (drop 16 d) h)
+pub spread-block : {ys : List ℕ} (v : ℕ) (d : List ℕ) → 16 ≤ length d → ys ≡ replicate (length (take 16 d)) v → ys ++ drop 16 d ≡ replicate (min 16 (length d)) v ++ drop 16 d
+spread-block v d k e = let m : min 16 (length d) ≡ 16 = omega arith in rw (e, length-take-le 16 d k, m) refl
+
+-- what `write_runs` needs of it
+spread-front : {ys : List ℕ} (n v : ℕ) (d : List ℕ) → n ≤ 16 → n ≤ length d → ys ≡ replicate (min 16 (length d)) v ++ drop 16 d → take n ys ≡ replicate n v
+spread-front n v d h k e = rw e (take-same n (min 16 (length d)) v (drop 16 d) (omega arith))
 
 -- what is before a, and then the first k of what is put there
 take-past : {A : Type 0} (a k : ℕ) (row ys : List A) → a ≤ length row → take (a + k) (take a row ++ ys) ≡ take a row ++ take k ys
@@ -63,10 +69,13 @@ module _ {runs row₀ row : List ℕ} {i gate : ℕ} (full : reach (length row�
     pub painted-over : length row - gate < runOf b → row ≡ take (length row₀) (cells runs)
     painted-over h = stop (reached-over (inv .reached) inside is (rw (inv .long) at h))
 
-    pub painted-turn : (ys : List ℕ) → runOf b ≤ length row - gate → length ys ≡ length row - gate
-        → take (runOf b) ys ≡ replicate (runOf b) (colourOf b)
+    pub painted-turn : (ys : List ℕ) → runOf b ≤ 16 → runOf b ≤ length row - gate → length ys ≡ length row - gate
+        → ys ≡ replicate (min 16 (length (take (length row - gate) (drop gate row)))) (colourOf b) ++ drop 16 (take (length row - gate) (drop gate row))
         → Painted runs row₀ (putMid gate (length row - gate) row ys) (i + 1) (gate + runOf b)
-    painted-turn ys h long run =
+    painted-turn ys few h long whole =
+        let size : length (take (length row - gate) (drop gate row)) ≡ length row - gate = simp (length-take, length-drop) (omega arith) in
+        let run : take (runOf b) ys ≡ replicate (runOf b) (colourOf b) =
+        spread-front (runOf b) (colourOf b) (take (length row - gate) (drop gate row)) few (rw size h) whole in
         let k : length row₀ - gate ≡ runOf b + (length row₀ - (gate + runOf b)) = omega (arith, inv .long) in
         let within : gate ≤ length row = omega (arith, inv .reached .within, inv .long) in
         let front : take (gate + runOf b) (putMid gate (length row - gate) row ys) ≡ take gate row ++ replicate (runOf b) (colourOf b) =

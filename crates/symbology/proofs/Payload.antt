@@ -19,9 +19,10 @@ use Rattle.bytes.proofs.Runs.{then-then, prepend, and-then, run-then, ends-at, 
 use Rattle.bytes.specs.declared.error.XdrItem.{XdrItem}
 use Rattle.xdr.specs.Xdr.{pass, atLeast0, pointer, counted, further, elements, listHead}
 use Rattle.xdr.proofs.Plains.{plain-pass, plain-int, plain-float, plain-string, plain-parameter, plain-counted, plain-list-head}
-use Rattle.symbology.specs.Symbology.{Sweep, productBlock, xdrRadials, radialComponent, component, only, payload}
-use Rattle.symbology.specs.Walk.{anyWalk, onlyWhole, listed, position, Gates28, componentHead, sweepFrom, Planned, Plans}
+use Rattle.symbology.specs.Symbology.{Sweep, productBlock, xdrRadials, Gates28, componentHead, component, only, payload}
+use Rattle.symbology.specs.Walk.{anyWalk, onlyWhole, listed, position, sweepFrom, Planned, Plans}
 use Rattle.symbology.specs.declared.figures.Figures.{Figures}
+use Rattle.symbology.proofs.ResultLaws.{one-value}
 use Rattle.symbology.specs.declared.spans.PlanRead.{PlanRead}
 use Rattle.symbology.specs.declared.spans.PlanRead.the-variants as PlanRead
 
@@ -30,9 +31,6 @@ use Rattle.symbology.specs.declared.spans.PlanRead.the-variants as PlanR
 module _ {W A B : Type 0} where
   under : (t : Flat A) {f g : A → Read W B} → ((a : A) → f a ≡ g a) → t >>= f ≡ t >>= g
   under t h = ap (λ k. t >>= k) (fun-ext h)
-
-  beneath : (t : Flat A) {u v : Read W B} → u ≡ v → t >> u ≡ t >> v
-  beneath t h = ap (λ k. t >> k) h
 
   give-then : (a : A) (f : A → Read W B) → give a >>= f ≡ f a
   unfolding _>>=_
@@ -47,17 +45,6 @@ by-then t u g = then-then (λ _. u) g t
 -- its radials, of the figures that its head gives
 abbrev headed : Gates28 → Flat Sweep
 headed h = xdrRadials (h .radials) (h .gateWidth) (h .firstGate)
-
-component-is : component ≡ componentHead >>= headed
-unfolding component radialComponent componentHead
-component-is =
-    sym
-    (then-then _ _ _ ∙ under _ λ type. by-then _ _ _ ∙ beneath _
-    (by-then _ _ _ ∙ beneath _
-    (then-then _ _ _ ∙ under _ λ w. then-then _ _ _ ∙ under _ λ f. by-then _ _ _ ∙ beneath _
-    (then-then _ _ _ ∙ under _ λ n. by-then _ _ _ ∙ beneath _
-    (by-then _ _ _ ∙ beneath _
-    (give-then _ _))))))
 
 plain-head : Plain componentHead
 unfolding componentHead
@@ -78,13 +65,13 @@ plain-block =
     (plain-word _ _ (plain-word _ _ (plain-word _ _ (plain-word _ _ (plain-word _ _ (plain-word _ _
     (plain-by _ _ (plain-counted _ plain-parameter) (plain-give _)))))))))))))))))))
 
-counted-small : (v : ℤ) → leZ v (pos 0) ≡ false → ltZ (pos 100000) v ≡ false → (0 < atLeast0 v) × (atLeast0 v ≤ 100000)
+pub counted-small : (v : ℤ) → leZ v (pos 0) ≡ false → ltZ (pos 100000) v ≡ false → (0 < atLeast0 v) × (atLeast0 v ≤ 100000)
 counted-small (pos zero) h k = let z : _≡_ {A = ℕ} 0 1 = cc in absurd (omega arith)
 counted-small (pos (suc n)) h k = (omega arith, ltb-false _ _ k)
 counted-small (negsuc n) h k = let z : _≡_ {A = ℕ} 0 1 = cc in absurd (omega arith)
 
 -- a head that passed has one to 100,000 radials
-pub head-small : (s : List ℕ) (p : ℕ) {h : Gates28} {q : ℕ} → passed h q ≡ walk componentHead s p → (0 < h .radials) × (h .radials ≤ 100000)
+head-small : (s : List ℕ) (p : ℕ) {h : Gates28} {q : ℕ} → passed h q ≡ walk componentHead s p → (0 < h .radials) × (h .radials ≤ 100000)
 unfolding componentHead
 head-small s p {h} {q} e =
     let a = parts _ _ s p e in
@@ -117,18 +104,17 @@ halt-of (halted y m) {x} h = let l : x ≡ y = cc in (m, ap (λ z. halted z m) l
 
 module _ (s : List ℕ) (p : ℕ) where
   pub component-refused : {x : Refusal} → refused x ≡ reached (walk componentHead s p) → refused x ≡ run component s p
-  component-refused h = run-halted headed componentHead plain-head s p (halt-of _ h .1) ∙ ap (λ t. run t s p) (sym component-is)
+  unfolding component
+  component-refused h = run-halted headed componentHead plain-head s p (halt-of _ h .1)
 
   pub component-at : {h : Gates28} {q : ℕ} → accepted (h, q) ≡ reached (walk componentHead s p) → run component s p ≡ run (headed h) s q
-  component-at h = ap (λ t. run t s p) component-is ∙ run-passed headed componentHead plain-head s p (walk-of _ h)
+  unfolding component
+  component-at h = run-passed headed componentHead plain-head s p (walk-of _ h)
 
   pub component-small : {h : Gates28} {q : ℕ} → accepted (h, q) ≡ reached (walk componentHead s p) → (0 < h .radials) × (h .radials ≤ 100000)
   component-small h = head-small s p (walk-of _ h)
 
 -- ---- plans
-
-accepted-inj : {A : Type 0} {a b : A} → accepted a ≡ accepted b → a ≡ b
-accepted-inj h = cc
 
 refused-run : {W A : Type 0} (t : Read W A) (s : List ℕ) (p : ℕ) {x : Refusal} → refused x ≡ position (walk t s p) → refused x ≡ run t s p
 refused-run {W} {A} t s p {x} h = go (walk t s p) refl h
@@ -202,7 +188,7 @@ module _ (s : List ℕ) (p : ℕ) where
   unfolding further _>>=_
   one-run {n} {g} h k = rw h (ap (λ t. run t s p) (first-then 0) ∙ run-goes _ component s p k)
 
-  pub left-over : {n : ℕ} {g : Given Sweep} → n ≡ 1 → run component s p ≡ accepted g → (length s - g .next ≡ 0 → ⊥)
+  left-over : {n : ℕ} {g : Given Sweep} → n ≡ 1 → run component s p ≡ accepted g → (length s - g .next ≡ 0 → ⊥)
       → refused (kind 35 (nat (length s - g .next) ∷ [])) ≡ run (listed n) s p
   unfolding prepend
   left-over {n} {g} h k l =
@@ -225,12 +211,12 @@ module _ {A : Type 0} (e : Flat A) (s : List ℕ) where
   more-length k a q {g} ih h =
       let b = run-parts (λ rest. give (a ∷ rest)) (further e k) s q h in
       let c : g .value ≡ b .second .value = ap (λ x. x .value) (b .whole) in
-      let d : b .second .value ≡ a ∷ b .first .value = ap (λ x. x .value) (sym (accepted-inj (b .second-is))) in
+      let d : b .second .value ≡ a ∷ b .first .value = ap (λ x. x .value) (sym (one-value (b .second-is))) in
       rw (c, d) (ap suc (ih q (b .first) (b .first-is)))
 
   further-length : (k p : ℕ) (g : Given (List A)) → run (further e k) s p ≡ accepted g → length (g .value) ≡ k
   unfolding further run _>>_
-  further-length zero p g h = ap (λ x. length (x .value)) (sym (accepted-inj h))
+  further-length zero p g h = ap (λ x. length (x .value)) (sym (one-value h))
   further-length (suc k) p g h =
       let a = run-parts (λ _. e >>= λ a. further e k >>= λ rest. give (a ∷ rest)) pointer s p h in
       let b = run-parts (λ a. further e k >>= λ rest. give (a ∷ rest)) e s (a .first .next) (a .second-is) in
@@ -244,7 +230,7 @@ module _ (s : List ℕ) (p n : ℕ) {g : Given Sweep} (more : 1 < n) (first : ru
       let e : n ≡ suc (n - 1) = omega (arith, more) in
       ap (λ k. run (elements component k >>= onlyWhole) s p) e ∙ ap (λ t. run t s p) (first-then s p (n - 1)) ∙ run-goes _ component s p first
 
-  pub further-refused : {x : Refusal} → refused x ≡ position (walk (further component (n - 1)) s (g .next)) → refused x ≡ run (listed n) s p
+  further-refused : {x : Refusal} → refused x ≡ position (walk (further component (n - 1)) s (g .next)) → refused x ≡ run (listed n) s p
   unfolding prepend
   further-refused {x} h =
       let e = refused-run (further component (n - 1)) s (g .next) h in
@@ -255,7 +241,7 @@ module _ (s : List ℕ) (p n : ℕ) {g : Given Sweep} (more : 1 < n) (first : ru
   stops [] q h = let z : n - 1 ≡ 0 = sym h in absurd (omega (arith, more, z))
   stops (b ∷ rest) q h = let z : suc (suc (length rest)) ≡ n = omega (arith, more, h) in rw z refl
 
-  pub too-many : {q : ℕ} → accepted q ≡ position (walk (further component (n - 1)) s (g .next)) → refused (kind 28 (nat n ∷ [])) ≡ run (listed n) s p
+  too-many : {q : ℕ} → accepted q ≡ position (walk (further component (n - 1)) s (g .next)) → refused (kind 28 (nat n ∷ [])) ≡ run (listed n) s p
   unfolding prepend
   too-many {q} h =
       let a = accepted-run (further component (n - 1)) s (g .next) h in

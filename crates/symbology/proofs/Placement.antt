@@ -1,14 +1,13 @@
 -- The places of an accepted body's data and of its unread bytes. Assumes nothing.
-use Prim.Native.Nat.{ℕ, zero, suc, _+_, _-_, _*_, _≤_, _<_}
+use Prim.Native.Nat.{ℕ, zero, suc, _+_, _-_, _≤_, _<_}
 use native.Mathlib.Omega.{arith}
 use native.Mathlib.Nat.{not-suc-le-zero, le-of-suc-le-suc}
 use mathlib.Core.List.{List, [], _∷_, _++_, append-nil, append-assoc}
-use mathlib.Core.Bool.{Bool, true, false, cond, _||_}
+use mathlib.Core.Bool.{Bool, true, false, cond}
 use mathlib.Core.Logic.{_⊎_, inl, inr, ⊎-elim, _↔_, _≢_, Iff·trans}
 use mathlib.Core.Path.{_≡_, refl, sym, ap, _∙_}
 use lib.ListN.{length, getD, length-map, List·getD-map}
-use lib.Dec.{ltb, eqb}
-use borrow.Author.Tests.{ltb-false}
+use lib.Dec.{eqb}
 use Rattle.bytes.specs.Bytes.{u16At, signed}
 use Rattle.bytes.specs.Refusal.{kind, whole}
 use Rattle.bytes.specs.Result.{accepted}
@@ -17,28 +16,13 @@ use Rattle.symbology.specs.declared.figures.Packet.{Packet}
 use Rattle.symbology.specs.declared.figures.Packet.the-variants.{Packet16, PacketAf1f, Packet28}
 use Rattle.symbology.specs.Rows.{rowOf}
 use Rattle.symbology.specs.Damage.{radialCount, radialAt, noFrame}
-use Rattle.symbology.specs.Symbology.{Sweep, covered, countWrong, frame, radial, radialWalk, firstBin, packetHeader, radialPacket, genericPacket, packetOf, symbology}
+use Rattle.symbology.specs.Symbology.{Sweep, covered, frame, radial, radialWalk, firstBin, packetHeader, radialPacket, genericPacket, packetOf, symbology}
 use Rattle.symbology.specs.Places.{place, frameAt, UnreadByte, UnreadIn, marks, bodyItems, mark, Enough, Placed}
 use Rattle.symbology.proofs.Path.{Ends, Reached, reached, then, after, tested, weaken, span, table, table-length, table-at}
+use Rattle.symbology.proofs.Walking.{count-right, no28, no28'}
 use Rattle.symbology.proofs.Marks.{RowFn, rowFn, Rows28, Generic, generic, levelRow}
 
 -- ---- packets 16 and AF1F
-
-left-false : (a b : Bool) → (a || b) ≡ false → a ≡ false
-left-false true b h = h
-left-false false b h = refl
-
-right-false : (a b : Bool) → (a || b) ≡ false → b ≡ false
-right-false true b h = absurd (let z : _≡_ {A = ℕ} 0 1 = cc in omega arith)
-right-false false b h = h
-
--- the data of a radial that passes its tests are inside the body, and enough for its row
-count-right : (packet : Packet) (bins count room : ℕ) → packet ≢ Packet28 → countWrong packet bins count room ≡ false
-    → (covered packet count ≤ room) × Enough packet bins (covered packet count)
-unfolding countWrong covered Enough
-count-right Packet16 bins count room old h = (ltb-false room count (right-false (ltb count bins) _ h), ltb-false count bins (left-false _ (ltb room count) h))
-count-right PacketAf1f bins count room old h = (ltb-false room (count * 2) h, tt)
-count-right Packet28 bins count room old h = absurd (old refl)
 
 module _ (packet : Packet) (bins : ℕ) (s : List ℕ) where
   -- radial r: its frame, the place of the next, three numbers and its data
@@ -150,10 +134,10 @@ at-code s code = by (eqb code 16) (eqb code 0xAF1F) (eqb code 28)
         (λ a e fs ps. Body s a e fs (head ps))
     by true c₂ c₃ =
         weaken (radialPacket Packet16) s 18 (Old s Packet16) _ (λ a e fs ps h. record { later = ps; bits = refl; one-of = inl h })
-        (at-packet Packet16 s (λ q. let z : _≡_ {A = ℕ} 0 1 = cc in omega arith))
+        (at-packet Packet16 s no28)
     by false true c₃ =
         weaken (radialPacket PacketAf1f) s 18 (Old s PacketAf1f) _ (λ a e fs ps h. record { later = ps; bits = refl; one-of = inr (inl h) })
-        (at-packet PacketAf1f s (λ q. let z : _≡_ {A = ℕ} 0 1 = cc in omega arith))
+        (at-packet PacketAf1f s no28')
     by false false true = weaken genericPacket s 18 (Generic s) _ (λ a e fs ps h. record { later = ps; bits = refl; one-of = inr (inr h) }) (generic s)
     by false false false = tt
 
@@ -224,8 +208,8 @@ module _ (b : List ℕ) (a : Sweep) (r : Reached symbology b 0 (Body b) a) where
 
   by-packet : Old b Packet16 a (r .past) (frames symbology b 0) (r .holds .later)
       ⊎ (Old b PacketAf1f a (r .past) (frames symbology b 0) (r .holds .later) ⊎ Generic b a (r .past) (frames symbology b 0) (r .holds .later)) → Placed b a
-  by-packet (inl o) = old-placed Packet16 (λ q. let z : _≡_ {A = ℕ} 0 1 = cc in omega arith) o
-  by-packet (inr (inl o)) = old-placed PacketAf1f (λ q. let z : _≡_ {A = ℕ} 0 1 = cc in omega arith) o
+  by-packet (inl o) = old-placed Packet16 no28 o
+  by-packet (inr (inl o)) = old-placed PacketAf1f no28' o
   by-packet (inr (inr o)) = new-placed o
 
 pub placed : (b : List ℕ) (g : Given Sweep) → run symbology b 0 ≡ accepted g → Placed b (g .value)

@@ -1,6 +1,6 @@
 -- The table's bodies, computed from the definitions. Assumes nothing.
 use mathlib.Core.Path.{refl}
-use lib.Ieee.{add, div, rem, ofInt, ofBits}
+use lib.Ieee.{add, div, rem, neg, ofInt, ofBits}
 use Rattle.bytes.specs.Bytes.{u16At, u32At, signed}
 use Rattle.bytes.specs.Float.{f32, f64}
 use Rattle.bytes.specs.Reading.{run, more, after-row, pieces, _>>=_, _>>_, remaining, u16, u32, unread, radial-data, refuse-if}
@@ -8,15 +8,19 @@ use Rattle.xdr.specs.Xdr.{int, float, string, stringBody, uint, word, short, pa
 use Rattle.symbology.specs.Answers.{joined, pictureOf}
 use Rattle.symbology.specs.Centre.{centre, centre28}
 use Rattle.symbology.specs.Rows.{rowOf, rowAF1F, reach, cells, words, push, levels, row28}
-use Rattle.symbology.specs.Symbology.{symbology, packetOf, radialPacket, packetHeader, firstBin, isEmpty, overBody, radialWalk, radial, frame, covered, countWrong, genericPacket, bodyShort, payload, productBlock, component, radialComponent, xdrRadials, xdrRadial, xdrWalk, xdrFrame, only}
-use Rattle.symbology.specs.Table.{Runs, Generic}
+use Rattle.symbology.specs.Symbology.{symbology, packetOf, radialPacket, packetHeader, firstBin, isEmpty, overBody, radialWalk, radial, frame, covered, countWrong, genericPacket, bodyShort, payload, productBlock, component, componentHead, xdrRadials, xdrRadial, xdrWalk, xdrFrame, only}
+use Rattle.symbology.specs.Table.{Runs, Centres28, Generic}
 
 pub runs : Runs
 unfolding pictureOf joined run more after-row _>>=_ _>>_ remaining u16 u32 unread radial-data refuse-if u16At u32At signed symbology packetOf radialPacket packetHeader firstBin isEmpty overBody radialWalk radial frame covered countWrong rowOf rowAF1F reach cells centre f64 add div ofInt
 runs = record { zero-run = refl }
 
+pub centres28 : Centres28
+unfolding centre28 f32 f64 add div rem neg
+centres28 = record { wraps = refl; below-0 = refl; minus-0 = refl; stays-nan = refl }
+
 pub generic : Generic
-unfolding pictureOf joined run more after-row pieces _>>=_ _>>_ remaining u16 u32 unread radial-data refuse-if u16At u32At signed symbology packetOf genericPacket bodyShort payload productBlock component radialComponent xdrRadials xdrRadial xdrWalk xdrFrame only int float string stringBody uint word short pass arrayCount pointer counted listHead elements further parameter rowOf row28 words push levels centre28 f32 f64 add div rem ofInt ofBits
+unfolding pictureOf joined run more after-row pieces _>>=_ _>>_ remaining u16 u32 unread radial-data refuse-if u16At u32At signed symbology packetOf genericPacket bodyShort payload productBlock component componentHead xdrRadials xdrRadial xdrWalk xdrFrame only int float string stringBody uint word short pass arrayCount pointer counted listHead elements further parameter rowOf row28 words push levels centre28 f32 f64 add div rem ofInt ofBits
 generic = record {
   two-radials = refl;
   with-parameters = refl;

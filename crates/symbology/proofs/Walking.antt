@@ -18,9 +18,9 @@ use Rattle.bytes.proofs.Readings.{walk-then, walk-give, then-passed, then-halte
 use Rattle.symbology.specs.Rows.{rowOf}
 use Rattle.symbology.specs.Places.{Enough}
 use Rattle.symbology.specs.Symbology.{covered, countWrong}
-use Rattle.symbology.specs.Walk.{Span, Place, expectedOf, beamSpan, stripSpan, anyFrame, anyRadial, anyWalk, placed, position}
+use Rattle.symbology.specs.Walk.{Span, Place, expectedOf, beamSpan, xdrRadialSpan, anyFrame, anyRadial, anyWalk, placed, position}
 use Rattle.symbology.proofs.Beams.{beam-is}
-use Rattle.symbology.proofs.Strips.{framed}
+use Rattle.symbology.proofs.XdrFrames.{framed}
 use Rattle.symbology.specs.declared.figures.Packet.{Packet}
 use Rattle.symbology.specs.declared.figures.Packet.the-variants.{Packet16, PacketAf1f, Packet28}
 
@@ -35,8 +35,8 @@ or-false : (a b : Bool) → a || b ≡ false → (a ≡ false) × (b ≡ false)
 or-false true b h = let z : _≡_ {A = ℕ} 0 1 = cc in absurd (omega arith)
 or-false false b h = (refl, h)
 
--- packets 16 and AF1F
-count-right : (packet : Packet) (bins count room : ℕ) → (packet ≡ Packet28 → ⊥) → countWrong packet bins count room ≡ false
+-- the data of a radial that passes its tests are inside the body, and enough for its row: packets 16 and AF1F
+pub count-right : (packet : Packet) (bins count room : ℕ) → (packet ≡ Packet28 → ⊥) → countWrong packet bins count room ≡ false
     → (covered packet count ≤ room) × Enough packet bins (covered packet count)
 unfolding countWrong covered Enough
 count-right Packet16 bins count room old h = let k = or-false _ _ h in (ltb-false _ _ (k .1), ltb-false _ _ (k .0))
@@ -60,18 +60,18 @@ module _ (packet : Packet) (old : packet ≡ Packet28 → ⊥) (radials bins r :
           rw (b, a) (record { inside = omega arith; enough = k })
 
 module _ (radials bins r : ℕ) (s : List ℕ) (p : ℕ) where
-  strip-spanned : (sp : Span) (q : ℕ) → passed sp q ≡ walk (stripSpan radials bins r) s p → Spanned Packet28 bins s sp q
-  unfolding stripSpan expectedOf Enough
-  strip-spanned sp q e =
+  xdr-radial-spanned : (sp : Span) (q : ℕ) → passed sp q ≡ walk (xdrRadialSpan radials bins r) s p → Spanned Packet28 bins s sp q
+  unfolding xdrRadialSpan expectedOf Enough
+  xdr-radial-spanned sp q e =
       let a = parts _ _ s p e in
       let f = framed radials r (expectedOf false bins) s p (a .value) (a .middle) (a .first) in
       last (f .bins-are) (f .room) (f .inside) (a .second ∙ walk-give _ s _)
     where
-      last : {n m : ℕ} {azimuth : Float} → n ≡ bins → n * 4 ≤ length s - m → m ≤ length s → passed sp q ≡ passed (record { azimuth = azimuth; size = n * 4 }) m
+      last : {n m : ℕ} {centre : Float} → n ≡ bins → n * 4 ≤ length s - m → m ≤ length s → passed sp q ≡ passed (record { centre = centre; size = n * 4 }) m
           → Spanned Packet28 bins s sp q
-      last {n} {m} {azimuth} h k l e =
+      last {n} {m} {centre} h k l e =
           let a : q ≡ m = cc in
-          let b : sp ≡ record { azimuth = azimuth; size = n * 4 } = cc in
+          let b : sp ≡ record { centre = centre; size = n * 4 } = cc in
           rw (b, a) (record { inside = omega arith; enough = ap (λ x. x * 4) h })
 
 pub no28 : Packet16 ≡ Packet28 → ⊥
@@ -84,7 +84,7 @@ pub spanned : (packet : Packet) (radials bins r : ℕ) (s : List ℕ) (p : ℕ) 
 unfolding anyFrame
 spanned Packet16 radials bins r s p = beam-spanned Packet16 no28 radials bins r s p
 spanned PacketAf1f radials bins r s p = beam-spanned PacketAf1f no28' radials bins r s p
-spanned Packet28 radials bins r s p = strip-spanned radials bins r s p
+spanned Packet28 radials bins r s p = xdr-radial-spanned radials bins r s p
 
 abbrev fine : Result (Unit {0})
 fine = accepted tt
@@ -93,20 +93,20 @@ fine = accepted tt
 pub record Found (packet : Packet) (radials bins r : ℕ) (s : List ℕ) (p : ℕ) (a : Float) (from to : ℕ) : Type 0 where
   pub size : ℕ
   pub to-is : to ≡ from + size
-  pub frame-is : passed (record { azimuth = a; size = size }) from ≡ walk (anyFrame packet radials bins r) s p
+  pub frame-is : passed (record { centre = a; size = size }) from ≡ walk (anyFrame packet radials bins r) s p
   pub inside : to ≤ length s
   pub enough : Enough packet bins size
 
 module _ (packet : Packet) (radials bins r : ℕ) (s : List ℕ) (p : ℕ) where
-  pub found : {a : Float} {from to : ℕ} → accepted (record { azimuth = a; from = from; to = to }) ≡ placed (walk (anyFrame packet radials bins r) s p)
+  pub found : {a : Float} {from to : ℕ} → accepted (record { centre = a; from = from; to = to }) ≡ placed (walk (anyFrame packet radials bins r) s p)
       → Found packet radials bins r s p a from to
   found {a} {from} {to} e = go (walk (anyFrame packet radials bins r) s p) refl e
     where
-      go : (w : Ended Span) → walk (anyFrame packet radials bins r) s p ≡ w → accepted (record { azimuth = a; from = from; to = to }) ≡ placed w
+      go : (w : Ended Span) → walk (anyFrame packet radials bins r) s p ≡ w → accepted (record { centre = a; from = from; to = to }) ≡ placed w
           → Found packet radials bins r s p a from to
       go (passed sp q) h k =
-          let l : _≡_ {A = Place} (record { azimuth = a; from = from; to = to }) (record { azimuth = sp .azimuth; from = q; to = q + sp .size }) = cc in
-          let x : a ≡ sp .azimuth = ap (λ y. y .azimuth) l in
+          let l : _≡_ {A = Place} (record { centre = a; from = from; to = to }) (record { centre = sp .centre; from = q; to = q + sp .size }) = cc in
+          let x : a ≡ sp .centre = ap (λ y. y .centre) l in
           let f : from ≡ q = ap (λ y. y .from) l in
           let t : to ≡ q + sp .size = ap (λ y. y .to) l in
           let g = spanned packet radials bins r s p sp q (sym h) in

@@ -5,16 +5,11 @@ use mathlib.Core.List.{List, [], _∷_, _++_}
 use mathlib.Core.Path.{_≡_}
 use lib.ListN.{getD, take, replicate}
 use Rattle.bytes.specs.Result.{accepted}
-use Rattle.symbology.specs.Rows.{runOf, colourOf, cells, words, rowOf, codesOf}
+use Rattle.symbology.specs.Rows.{runOf, colourOf, cells, words, rowOf, codesOf, codeBits}
 use Rattle.symbology.specs.declared.figures.Packet.{Packet}
 use Rattle.symbology.specs.declared.figures.Packet.the-variants.{Packet16, PacketAf1f, Packet28}
 use Rattle.symbology.proofs.FirstBad.{each-level}
 use Rattle.symbology.proofs.FullRow.{Passed, row-made}
-
-abbrev pub codeBits : Packet → ℕ
-codeBits Packet16 = 8
-codeBits PacketAf1f = 4
-codeBits Packet28 = 16
 
 -- every element is below m, one past the end counting 0
 abbrev Below : ℕ → List ℕ → Type 0

@@ -1,35 +1,46 @@
--- The integers of a list of bytes, four bytes to each: how many there are, and where each stands. Assumes nothing.
-use Prim.Native.Nat.{ℕ, zero, suc, _+_, _*_, _/_, _≤_}
-use native.Mathlib.Omega.{arith}
-use mathlib.Core.List.{List, [], _∷_}
-use mathlib.Core.Path.{_≡_, refl}
-use lib.ListN.{length, getD}
-use Rattle.bytes.specs.Bytes.{u16At, u32At}
-use Rattle.symbology.specs.Rows.{words}
+-- Damage as a reading has it is damage in document 01's words. Assumes nothing.
+use Prim.Native.Nat.{ℕ, _<_}
+use mathlib.Core.List.{List}
+use mathlib.Core.Logic.{inl, inr, ⊎-elim, _↔_, Iff·rfl}
+use mathlib.Core.Path.{_≡_, refl, sym, _∙_}
+use lib.ListN.{length}
+use Rattle.bytes.specs.Result.{accepted}
+use Rattle.bytes.specs.Reading.{Given, run, Unread}
+use Rattle.symbology.specs.declared.figures.Packet.{Packet}
+use Rattle.symbology.specs.declared.figures.Packet.the-variants.{Packet16, PacketAf1f, Packet28}
+use Rattle.symbology.specs.Damage.{DataByte, radialAt, Damage}
+use Rattle.symbology.specs.Symbology.{Sweep, symbology}
+use Rattle.symbology.specs.Places.{place, frameAt, Placed}
+use Rattle.symbology.specs.Words.{IsUnread, IsData, DamageInWords}
+use Rattle.symbology.proofs.Walking.{no28, no28'}
+use Rattle.symbology.proofs.Placement.{placed}
 
-abbrev four : ℕ → ℕ
-four n = suc (suc (suc (suc n)))
+module _ (b : List ℕ) (a : Sweep) (q : Placed b a) where
+  unread-in-words : (packet : Packet) → a .figures .packet ≡ packet → (i : ℕ) → i < length b → Unread symbology b 0 i ↔ IsUnread packet (a .figures .«n_radials») b i
+  unfolding IsUnread
+  unread-in-words Packet16 e i lt = rw e at (q .unread (λ h. no28 (sym e ∙ h)) i)
+  unread-in-words PacketAf1f e i lt = rw e at (q .unread (λ h. no28' (sym e ∙ h)) i)
+  unread-in-words Packet28 e i lt = q .unread28 e i lt
 
--- four bytes to an integer; a rest of fewer than four makes none
-pub words-length : (s : List ℕ) → length (words s) ≡ length s / 4
-unfolding words
-words-length [] = refl
-words-length (a ∷ []) = refl
-words-length (a ∷ b ∷ []) = refl
-words-length (a ∷ b ∷ c ∷ []) = refl
-words-length (a ∷ b ∷ c ∷ d ∷ s) = omega (arith, words-length s)
+  pub byte-in-words : (packet : Packet) → a .figures .packet ≡ packet → (r i : ℕ) → r < a .figures .«n_radials»
+      → DataByte (radialAt symbology b r) i ↔ IsData packet b r i
+  unfolding IsData place frameAt
+  byte-in-words Packet16 e r i lt = rw (q .frames (λ h. no28 (sym e ∙ h)) r lt, e) Iff·rfl
+  byte-in-words PacketAf1f e r i lt = rw (q .frames (λ h. no28' (sym e ∙ h)) r lt, e) Iff·rfl
+  byte-in-words Packet28 e r i lt = rw (q .data28 e r lt) Iff·rfl
 
--- integer k stands at byte 4 × k
-pub words-at : (s : List ℕ) (k : ℕ) → k * 4 + 4 ≤ length s → getD (words s) k 0 ≡ u32At s (k * 4)
-unfolding words u32At u16At
-words-at [] k h = absurd (omega arith)
-words-at (a ∷ []) k h = absurd (omega arith)
-words-at (a ∷ b ∷ []) k h = absurd (omega arith)
-words-at (a ∷ b ∷ c ∷ []) k h = absurd (omega arith)
-words-at (a ∷ b ∷ c ∷ d ∷ s) zero h = refl
-words-at (a ∷ b ∷ c ∷ d ∷ s) (suc k) h =
-    let first : suc k * 4 ≡ four (k * 4) = omega arith in
-    let second : suc k * 4 + 1 ≡ four (k * 4 + 1) = omega arith in
-    let third : suc k * 4 + 2 ≡ four (k * 4 + 2) = omega arith in
-    let fourth : suc k * 4 + 2 + 1 ≡ four (k * 4 + 2 + 1) = omega arith in
-    rw (fourth, third, second, first) (words-at s k (omega arith))
+pub damage-in-words : (b b' : List ℕ) (g : Given Sweep) → run symbology b 0 ≡ accepted g → Damage symbology b b' ↔ DamageInWords b (g .value) b'
+damage-in-words b b' g acc =
+    let q = placed b g acc in
+    let unread = unread-in-words b (g .value) q (g .value .figures .packet) refl in
+    let byte = byte-in-words b (g .value) q (g .value .figures .packet) refl in (
+      λ d. record {
+        same-length = d .same-length;
+        only = λ i lt ne.
+            ⊎-elim (λ u. inl (unread i lt .0 u)) (λ w. let h = rw (q .count) at (w .1) in inr (w .0, h, byte (w .0) i h .0 (w .2))) (d .only i lt ne);
+      },
+      λ d. record {
+        same-length = d .same-length;
+        only = λ i lt ne. ⊎-elim (λ u. inl (unread i lt .1 u)) (λ w. inr (w .0, rw (q .count) (w .1), byte (w .0) i (w .1) .1 (w .2))) (d .only i lt ne);
+      },
+    )

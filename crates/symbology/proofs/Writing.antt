@@ -18,7 +18,7 @@ use Rattle.xdr.proofs.Plains.{plain-pass, plain-int, plain-float, plain-string,
 use Rattle.symbology.specs.Answers.{joined}
 use Rattle.symbology.specs.Rows.{rowOf, codesOf, FullRow}
 use Rattle.symbology.specs.Symbology.{frame, xdrFrame}
-use Rattle.symbology.specs.Walk.{Span, beamSpan, stripSpan, anyFrame, anyRadial, anyWalk, placed, Accepted, firstRow, rowIn, centreIn}
+use Rattle.symbology.specs.Walk.{Span, beamSpan, xdrRadialSpan, anyFrame, anyRadial, anyWalk, placed, Accepted, firstRow, rowIn, centreIn}
 use Rattle.symbology.proofs.FullRow.{full-row}
 use Rattle.symbology.proofs.Walking.{Found, data-is, spanned}
 use Rattle.symbology.specs.declared.figures.Packet.{Packet}
@@ -44,10 +44,10 @@ plain-xdr-frame radials r expected =
     _ plain-array-count)) _ plain-int) _ plain-float)) _ plain-float
 
 pub plain-frame : (packet : Packet) (radials bins r : ℕ) → Plain (anyFrame packet radials bins r)
-unfolding anyFrame stripSpan
+unfolding anyFrame xdrRadialSpan
 plain-frame Packet16 radials bins r = plain-beam Packet16 radials bins r
 plain-frame PacketAf1f radials bins r = plain-beam PacketAf1f radials bins r
-plain-frame Packet28 radials bins r = plain-then _ (λ strip. plain-give _) _ (plain-xdr-frame radials r _)
+plain-frame Packet28 radials bins r = plain-then _ (λ xdr. plain-give _) _ (plain-xdr-frame radials r _)
 
 -- ---- one radial
 
@@ -103,7 +103,7 @@ frame-there packet radials bins r s p {x} acc e =
 
 -- a frame that passed is a place that was found
 found-at : (packet : Packet) (radials bins r : ℕ) (s : List ℕ) (p : ℕ) (sp : Span) (q : ℕ) → passed sp q ≡ walk (anyFrame packet radials bins r) s p
-    → Found packet radials bins r s p (sp .azimuth) q (q + sp .size)
+    → Found packet radials bins r s p (sp .centre) q (q + sp .size)
 found-at packet radials bins r s p sp q e =
     let g = spanned packet radials bins r s p sp q e in
     record { size = sp .size; to-is = refl; frame-is = e; inside = g .inside; enough = g .enough }

@@ -4,7 +4,7 @@ use mathlib.Core.List.{List, [], _∷_, _++_}
 use mathlib.Core.Bool.{Bool, true, false, not}
 use lib.Dec.{ltb}
 use lib.Ieee.{Float}
-use Rattle.bytes.specs.Refusal.{kind, buffer, refusalOf}
+use Rattle.bytes.specs.Refusal.{kind, float, buffer, refusalOf}
 use Rattle.bytes.specs.Result.{Result, accepted, refused, refuse, then}
 use Rattle.bytes.specs.Reading.{run}
 use Rattle.bytes.specs.declared.error.Buffer.the-variants as Buffer
@@ -13,6 +13,8 @@ use Rattle.symbology.specs.declared.figures.Figures.{Figures}
 use Rattle.symbology.specs.declared.figures.Packet.{Packet}
 use Rattle.symbology.specs.declared.figures.Packet.the-variants.{Packet16, PacketAf1f, Packet28}
 use Rattle.symbology.specs.declared.figures.Terms.{Terms}
+use Rattle.symbology.specs.declared.figures.StepCheck.{StepCheck}
+use Rattle.symbology.specs.declared.figures.StepCheck.the-variants as StepCheck
 use Rattle.symbology.specs.declared.figures.Room.{Room}
 use Rattle.symbology.specs.declared.figures.Room.the-variants as Room
 use Rattle.symbology.specs.declared.figures.FiguresRead.{FiguresRead}
@@ -63,12 +65,17 @@ roomIn t na nc radials cells =
     (refuse (tooFew (t .physical) cells) (kind 36 (buffer Buffer.Physical ∷ []))
     (accepted tt)))
 
--- What stands between a body's reading and its picture: 10 for a packet that is not asked for, the caller's check of the scale (9), 36.
+-- 9, with the step that the caller's test did not pass
+abbrev pub stepOf : StepCheck → Result (Unit {0})
+stepOf StepCheck.Passed = accepted tt
+stepOf (StepCheck.NotPositive x) = refused (kind 9 (float x ∷ []))
+
+-- What stands between a body's reading and its picture: 10 for a packet that is not asked for, 9 by the caller's test of the step, 36.
 -- No row is looked at.
 unfoldable pub admit : Terms → ℕ → ℕ → Figures → Result (Unit {0})
 admit t na nc f =
     refuse (not (asked t (f .packet))) (kind 10 [])
-    (then (checkOf (t .scale)) λ _.
+    (then (stepOf (t .step)) λ _.
     roomIn t na nc (f .«n_radials») (f .«n_radials» * f .«n_bins»))
 
 -- the reading of a body on terms
@@ -80,7 +87,7 @@ decodeFor t body na nc =
 
 -- every packet, and no more than the two buffers
 abbrev pub anyTerms : Terms
-anyTerms = record { packet16 = true; «packet_af1f» = true; packet28 = true; scale = Check.Passed; physical = Room.Unasked }
+anyTerms = record { packet16 = true; «packet_af1f» = true; packet28 = true; step = StepCheck.Passed; physical = Room.Unasked }
 
 unfoldable pub decodeOf : List ℕ → ℕ → ℕ → Result Picture
 decodeOf = decodeFor anyTerms

@@ -40,7 +40,8 @@ rowAF1F bins radial bytes =
     refuse (not (eqb (reach bins bytes) bins)) (kind 22 (nat radial ∷ nat (reach bins bytes) ∷ nat bins ∷ []))
     (accepted (take bins (cells bytes)))
 
--- ---- packet 28: integers of four bytes, each from 0 to 65,535; else 34 with the first that is not
+-- ---- packet 28: integers of four bytes, each from 0 to 65,535; else 34 with the first that is not; a rest of fewer than
+-- four bytes makes none
 
 unfoldable pub words : List ℕ → List ℕ
 words [] = []
@@ -77,6 +78,12 @@ unfoldable pub codesOf : Packet → ℕ → List ℕ → List ℕ
 codesOf Packet16 bins bytes = take bins bytes
 codesOf PacketAf1f bins bytes = take bins (cells bytes)
 codesOf Packet28 bins bytes = words bytes
+
+-- how many bits a code has
+abbrev pub codeBits : Packet → ℕ
+codeBits Packet16 = 8
+codeBits PacketAf1f = 4
+codeBits Packet28 = 16
 
 -- the data make a row of n codes
 unfoldable pub FullRow : Packet → ℕ → List ℕ → Type 0

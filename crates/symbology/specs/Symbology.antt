@@ -70,9 +70,9 @@ radial packet radials bins r = do
 unfoldable pub radialWalk : Packet → ℕ → ℕ → ℕ → ℕ → Flat (List Float)
 radialWalk packet radials bins zero r = give []
 radialWalk packet radials bins (suc n) r = do
-  azimuth ← radial packet radials bins r
+  first ← radial packet radials bins r
   azimuths ← radialWalk packet radials bins n (suc r)
-  give (azimuth ∷ azimuths)
+  give (first ∷ azimuths)
 
 -- bytes 18-19: read in packet 16 alone
 unfoldable pub firstBin : Packet → Flat ℕ
@@ -159,13 +159,13 @@ productBlock = do
   counted parameter
   give tt
 
--- a radial's place and its number of bins
-pub record Strip : Type 0 where
-  pub azimuth : Float
+-- a radial's centre in degrees, and its number of bins
+pub record XdrRadial : Type 0 where
+  pub centre : Float
   pub bins : ℕ
 
 -- a radial's frame: all six items, then 29, 31, 32, 33 (first radial only). `expected` is radial 0's number of bins, for the others
-unfoldable pub xdrFrame : ℕ → ℕ → (ℕ → ℕ) → Flat Strip
+unfoldable pub xdrFrame : ℕ → ℕ → (ℕ → ℕ) → Flat XdrRadial
 xdrFrame radials r expected = do
   azimuth ← Xdr.float
   pass Item.Float 4  -- elevation
@@ -177,22 +177,22 @@ xdrFrame radials r expected = do
   refuse-if (not (eqb (atLeast0 bins) (expected (atLeast0 bins)))) (kind 31 (nat r ∷ nat (atLeast0 bins) ∷ nat (expected (atLeast0 bins)) ∷ []))
   refuse-if (not (eqb n (atLeast0 bins))) (kind 32 (nat r ∷ nat n ∷ nat (atLeast0 bins) ∷ []))
   refuse-if (eqb r 0 && ltb 4000000 (radials * atLeast0 bins)) (kind 33 (nat radials ∷ nat (atLeast0 bins) ∷ nat (radials * atLeast0 bins) ∷ nat 4000000 ∷ []))
-  give (record { azimuth = centre28 azimuth width; bins = atLeast0 bins })
+  give (record { centre = centre28 azimuth width; bins = atLeast0 bins })
 
 -- a radial: its frame, and its data with their row (34)
-unfoldable pub xdrRadial : ℕ → ℕ → (ℕ → ℕ) → Flat Strip
+unfoldable pub xdrRadial : ℕ → ℕ → (ℕ → ℕ) → Flat XdrRadial
 xdrRadial radials r expected = do
-  strip ← xdrFrame radials r expected
-  radial-data (strip .bins * 4) (rowOf Packet28 (strip .bins) r)
-  give strip
+  xdr ← xdrFrame radials r expected
+  radial-data (xdr .bins * 4) (rowOf Packet28 (xdr .bins) r)
+  give xdr
 
 -- n further radials from radial r on
 unfoldable pub xdrWalk : ℕ → ℕ → ℕ → ℕ → Flat (List Float)
 xdrWalk radials bins zero r = give []
 xdrWalk radials bins (suc n) r = do
-  strip ← xdrRadial radials r (λ _. bins)
+  xdr ← xdrRadial radials r (λ _. bins)
   azimuths ← xdrWalk radials bins n (suc r)
-  give (strip .azimuth ∷ azimuths)
+  give (xdr .centre ∷ azimuths)
 
 -- all radials, of which the first gives the number of bins
 unfoldable pub xdrRadials : ℕ → Float → Float → Flat Sweep
@@ -206,11 +206,20 @@ xdrRadials radials gateWidth firstGate = do
       «n_bins» = first .bins;
       geometry = Gates gateWidth firstGate;
     };
-    azimuths = first .azimuth ∷ azimuths;
+    azimuths = first .centre ∷ azimuths;
   })
 
-unfoldable pub radialComponent : Flat Sweep
-radialComponent = do
+-- a component up to its radials: how many, and the gate figures
+pub record Gates28 : Type 0 where
+  pub radials : ℕ
+  pub gateWidth : Float
+  pub firstGate : Float
+
+-- 27, 29, 30; the type 1 is "radial"
+unfoldable pub componentHead : Flat Gates28
+componentHead = do
+  type ← int
+  refuse-if (not (eqb (atLeast0 type) 1)) (kind 27 (whole type ∷ []))
   string  -- description
   gateWidth ← Xdr.float
   firstGate ← Xdr.float
@@ -218,14 +227,12 @@ radialComponent = do
   radials ← int
   refuse-if (leZ radials (pos 0)) (kind 29 (whole radials ∷ nat 0 ∷ []))
   refuse-if (ltZ (pos 100000) radials) (kind 30 (whole radials ∷ nat 100000 ∷ []))
-  xdrRadials (atLeast0 radials) gateWidth firstGate
+  give (record { radials = atLeast0 radials; gateWidth = gateWidth; firstGate = firstGate })
 
--- the type 1 is "radial"
 unfoldable pub component : Flat Sweep
 component = do
-  type ← int
-  refuse-if (not (eqb (atLeast0 type) 1)) (kind 27 (whole type ∷ []))
-  radialComponent
+  head ← componentHead
+  xdrRadials (head .radials) (head .gateWidth) (head .firstGate)
 
 -- 28 where not just one component was walked
 unfoldable pub only : List Sweep → Flat Sweep

@@ -1,14 +1,15 @@
--- Bodies with their pictures or refusals: a zero run in AF1F, and packet 28. (Document 01's table, P1 to P13, is the sweep's.)
+-- Bodies with their pictures or refusals: a zero run in AF1F, and packet 28, also its centres. (Document 01's table, P1 to P13, is the sweep's.)
 use Prim.Native.Nat.{ℕ, _/_, _%_, _+_}
 use mathlib.Core.List.{List, [], _∷_, _++_}
 use mathlib.Core.Path.{_≡_}
 use lib.ListN.{replicate, length}
-use lib.Ieee.{Float}
+use lib.Ieee.{Float, nan, neg}
 use Rattle.bytes.specs.Float.{f32, f64}
 use Rattle.bytes.specs.Refusal.{kind, nat}
 use Rattle.bytes.specs.Result.{Result, accepted, refused}
 use Rattle.bytes.specs.Reading.{Piece, as-number, as-unread, as-data, pieces}
 use Rattle.symbology.specs.Answers.{Picture, pictureOf}
+use Rattle.symbology.specs.Centre.{centre28}
 use Rattle.symbology.specs.Symbology.{symbology}
 use Rattle.symbology.specs.declared.figures.Packet.{Packet}
 use Rattle.symbology.specs.declared.figures.Packet.the-variants.{PacketAf1f, Packet28}
@@ -37,6 +38,13 @@ pub record Runs : Type 0 where
 
 -- ---- packet 28
 
+-- (azimuth + width / 2) % 360, of azimuth and width: the sign is the dividend's, also of 0; NaN stays
+pub record Centres28 : Type 0 where
+  pub wraps : centre28 (f32 3595 10) (f32 1 1) ≡ f64 0 1
+  pub below-0 : centre28 (neg (f32 10 1)) (f32 1 1) ≡ neg (f64 95 10)
+  pub minus-0 : centre28 (neg (f32 360 1)) (f32 0 1) ≡ neg (f64 0 1)
+  pub stays-nan : centre28 nan (f32 1 1) ≡ nan
+
 -- a word
 abbrev pub four : ℕ → List ℕ
 four n = two (n / 65536) ++ two (n % 65536)
@@ -50,23 +58,23 @@ abbrev pub oneParameter : List ℕ
 oneParameter = four 1 ++ four 0 ++ four 1 ++ (65 ∷ 0 ∷ 0 ∷ 0 ∷ []) ++ four 0
 
 -- a radial of two bins: its azimuth as an f32's bits, elevation 0, width 1, the number of bins, no attributes, and its array
-abbrev pub strip : ℕ → ℕ → ℕ → ℕ → List ℕ
-strip azimuth bins a b = four azimuth ++ four 0 ++ four 0x3F800000 ++ four bins ++ four 0 ++ four 2 ++ four a ++ four b
+abbrev pub xdrRadial : ℕ → ℕ → ℕ → ℕ → List ℕ
+xdrRadial azimuth bins a b = four azimuth ++ four 0 ++ four 0x3F800000 ++ four bins ++ four 0 ++ four 2 ++ four a ++ four b
 
 -- a component of a type: no description, gates of 250 m from 125 m on, its parameters, and its radials
 abbrev pub component : ℕ → List ℕ → ℕ → List ℕ → List ℕ
 component type parameters radials bytes = four type ++ four 0 ++ four 0x437A0000 ++ four 0x42FA0000 ++ parameters ++ four radials ++ bytes
 
 -- two radials of two bins, at 10 and 11 degrees: the second of `bins` bins, its last code `code`
-abbrev pub strips : ℕ → ℕ → List ℕ
-strips bins code = strip 0x41200000 2 1 2 ++ strip 0x41300000 bins 3 code
+abbrev pub xdrRadials : ℕ → ℕ → List ℕ
+xdrRadials bins code = xdrRadial 0x41200000 2 1 2 ++ xdrRadial 0x41300000 bins 3 code
 
 -- a body: its first 18 bytes, two unread, the payload's length, and the payload: the product block, its parameters, and the components
 abbrev pub generic : List ℕ → List ℕ → List ℕ
 generic parameters components = start 28 ++ two 0 ++ four (72 + length parameters + length components) ++ replicate 72 0 ++ parameters ++ components
 
-abbrev pub twoStrips : List ℕ
-twoStrips = four 1 ++ four 0 ++ component 1 noList 2 (strips 2 65535)
+abbrev pub twoXdrRadials : List ℕ
+twoXdrRadials = four 1 ++ four 0 ++ component 1 noList 2 (xdrRadials 2 65535)
 
 abbrev pub genericPicture : Result Picture
 genericPicture =
@@ -81,23 +89,23 @@ abbrev pub times : ℕ → Piece → List Piece → List Piece
 times n p rest = replicate n p ++ rest
 
 -- the pieces of a radial of two bins: azimuth, elevation, width, bins, attributes, count, data
-abbrev pub stripPieces : List Piece → List Piece
-stripPieces rest = as-number 4 ∷ as-unread 4 ∷ as-number 4 ∷ as-number 4 ∷ as-number 4 ∷ as-unread 0 ∷ as-unread 0 ∷ as-number 4 ∷ as-data 8 ∷ rest
+abbrev pub xdrRadialPieces : List Piece → List Piece
+xdrRadialPieces rest = as-number 4 ∷ as-unread 4 ∷ as-number 4 ∷ as-number 4 ∷ as-number 4 ∷ as-unread 0 ∷ as-unread 0 ∷ as-number 4 ∷ as-data 8 ∷ rest
 
 pub record Generic : Type 0 where
-  pub two-radials : pictureOf (generic noList twoStrips) ≡ genericPicture
-  pub with-parameters : pictureOf (generic oneParameter twoStrips) ≡ genericPicture
+  pub two-radials : pictureOf (generic noList twoXdrRadials) ≡ genericPicture
+  pub with-parameters : pictureOf (generic oneParameter twoXdrRadials) ≡ genericPicture
   -- 65,536 at gate 1 of radial 1
-  pub is-34 : pictureOf (generic noList (four 1 ++ four 0 ++ component 1 noList 2 (strips 2 65536))) ≡ refused (kind 34 (nat 1 ∷ nat 1 ∷ nat 65536 ∷ []))
+  pub is-34 : pictureOf (generic noList (four 1 ++ four 0 ++ component 1 noList 2 (xdrRadials 2 65536))) ≡ refused (kind 34 (nat 1 ∷ nat 1 ∷ nat 65536 ∷ []))
   -- radial 1 has three bins and radial 0 two
-  pub is-31 : pictureOf (generic noList (four 1 ++ four 0 ++ component 1 noList 2 (strips 3 0))) ≡ refused (kind 31 (nat 1 ∷ nat 3 ∷ nat 2 ∷ []))
+  pub is-31 : pictureOf (generic noList (four 1 ++ four 0 ++ component 1 noList 2 (xdrRadials 3 0))) ≡ refused (kind 31 (nat 1 ∷ nat 3 ∷ nat 2 ∷ []))
   -- two components, each walked
-  pub is-28 : pictureOf (generic noList (four 2 ++ four 0 ++ component 1 noList 2 (strips 2 0) ++ four 0 ++ component 1 noList 2 (strips 2 0))) ≡ refused (kind 28 (nat 2 ∷ []))
+  pub is-28 : pictureOf (generic noList (four 2 ++ four 0 ++ component 1 noList 2 (xdrRadials 2 0) ++ four 0 ++ component 1 noList 2 (xdrRadials 2 0))) ≡ refused (kind 28 (nat 2 ∷ []))
   -- the second is of type 2: its refusal comes before the count's
-  pub is-27 : pictureOf (generic noList (four 2 ++ four 0 ++ component 1 noList 2 (strips 2 0) ++ four 0 ++ component 2 noList 2 [])) ≡ refused (kind 27 (nat 2 ∷ []))
+  pub is-27 : pictureOf (generic noList (four 2 ++ four 0 ++ component 1 noList 2 (xdrRadials 2 0) ++ four 0 ++ component 2 noList 2 [])) ≡ refused (kind 27 (nat 2 ∷ []))
   -- what is read, what is not, and the radials' data: after the divider and the block 12 bytes unread, the code, 2 unread, the payload's
   -- length; three strings and fifteen words of the product block; no parameters; one component
-  pub read-unread-data : pieces symbology (generic noList twoStrips) 0 ≡
+  pub read-unread-data : pieces symbology (generic noList twoXdrRadials) 0 ≡
       as-number 2 ∷ as-number 2 ∷ as-unread 12 ∷ as-number 2 ∷ as-unread 2 ∷ as-number 4
       ∷ as-number 4 ∷ as-unread 0 ∷ as-unread 0 ∷ as-number 4 ∷ as-unread 0 ∷ as-unread 0
       ∷ times 3 (as-unread 4)
@@ -106,4 +114,4 @@ pub record Generic : Type 0 where
       (as-number 4 ∷ as-unread 4
       ∷ as-number 4 ∷ as-unread 4
       ∷ as-number 4 ∷ as-number 4 ∷ as-unread 0 ∷ as-unread 0 ∷ as-number 4 ∷ as-number 4 ∷ as-number 4 ∷ as-unread 4 ∷ as-number 4
-      ∷ stripPieces (stripPieces [])))
+      ∷ xdrRadialPieces (xdrRadialPieces [])))

@@ -1,4 +1,5 @@
--- The walk over the radials as the code goes, one for all packets. proofs/Walking.antt shows that it is the reading's.
+-- The walk over the radials as the code goes, one for all packets; it is the reading's (proofs/Bodies.antt `walk-is`, XdrRadials.antt
+-- `radials-are`). No public contract cites this file.
 use Prim.Native.Nat.{ℕ, zero, suc, _+_, _*_, _≤_}
 use mathlib.Core.List.{List, [], _∷_}
 use mathlib.Core.Path.{_≡_}
@@ -6,18 +7,15 @@ use mathlib.Core.Bool.{Bool, true, false, not}
 use lib.Dec.{eqb}
 use lib.ListN.{length}
 use lib.Seq.{slice}
-use lib.IntN.{pos}
-use lib.Signed.{leZ, ltZ}
 use lib.Ieee.{Float}
-use Rattle.bytes.specs.Refusal.{refusalOf, kind, nat, whole}
+use Rattle.bytes.specs.Refusal.{refusalOf, kind, nat}
 use Rattle.bytes.specs.Bytes.{u16At}
 use Rattle.bytes.specs.Result.{Result, accepted, refused, then}
 use Rattle.bytes.specs.Reading.{Read, Flat, give, remaining, _>>=_, _>>_, radial-data, refuse-if, run, Given, Ended, passed, halted, onward, reached}
-use Rattle.xdr.specs.Xdr as Xdr
-use Rattle.xdr.specs.Xdr.{int, string, atLeast0, pointer, elements, counted, parameter}
+use Rattle.xdr.specs.Xdr.{pointer, elements}
 use Rattle.symbology.specs.Centre.{centre}
 use Rattle.symbology.specs.Rows.{rowOf}
-use Rattle.symbology.specs.Symbology.{Sweep, Header, Strip, covered, frame, xdrFrame, component, only}
+use Rattle.symbology.specs.Symbology.{Sweep, Header, XdrRadial, covered, frame, xdrFrame, Gates28, component, only}
 use Rattle.symbology.specs.declared.figures.Packet.{Packet}
 use Rattle.symbology.specs.declared.figures.Packet.the-variants.{Packet16, PacketAf1f, Packet28}
 use Rattle.xdr.specs.declared.xdr.Step.{Step}
@@ -39,7 +37,7 @@ use Rattle.symbology.specs.declared.spans.Next.the-variants as Next
 
 -- a radial's centre, and how many bytes its data have
 pub record Span : Type 0 where
-  pub azimuth : Float
+  pub centre : Float
   pub size : ℕ
 
 -- the bins that packet 28 expects: the first reading of radial 0 takes its own
@@ -50,46 +48,46 @@ expectedOf false bins own = bins
 unfoldable pub beamSpan : Packet → ℕ → ℕ → ℕ → Flat Span
 beamSpan packet radials bins r = do
   beam ← frame packet radials bins r
-  give (record { azimuth = centre (beam .start) (beam .width); size = covered packet (beam .count) })
+  give (record { centre = centre (beam .start) (beam .width); size = covered packet (beam .count) })
 
-unfoldable pub stripSpan : ℕ → ℕ → ℕ → Flat Span
-stripSpan radials bins r = do
-  strip ← xdrFrame radials r (expectedOf false bins)
-  give (record { azimuth = strip .azimuth; size = strip .bins * 4 })
+unfoldable pub xdrRadialSpan : ℕ → ℕ → ℕ → Flat Span
+xdrRadialSpan radials bins r = do
+  xdr ← xdrFrame radials r (expectedOf false bins)
+  give (record { centre = xdr .centre; size = xdr .bins * 4 })
 
 unfoldable pub anyFrame : Packet → ℕ → ℕ → ℕ → Flat Span
 anyFrame Packet16 = beamSpan Packet16
 anyFrame PacketAf1f = beamSpan PacketAf1f
-anyFrame Packet28 = stripSpan
+anyFrame Packet28 = xdrRadialSpan
 
 unfoldable pub anyRadial : Packet → ℕ → ℕ → ℕ → Flat Float
 anyRadial packet radials bins r = do
   span ← anyFrame packet radials bins r
   radial-data (span .size) (rowOf packet bins r)
-  give (span .azimuth)
+  give (span .centre)
 
 -- n radials from radial r on
 unfoldable pub anyWalk : Packet → ℕ → ℕ → ℕ → ℕ → Flat (List Float)
 anyWalk packet radials bins zero r = give []
 anyWalk packet radials bins (suc n) r = do
-  azimuth ← anyRadial packet radials bins r
+  first ← anyRadial packet radials bins r
   azimuths ← anyWalk packet radials bins n (suc r)
-  give (azimuth ∷ azimuths)
+  give (first ∷ azimuths)
 
 -- ---- what the answers say
 
 -- the centre and the place of the data
 pub record Place : Type 0 where
-  pub azimuth : Float
+  pub centre : Float
   pub from : ℕ
   pub to : ℕ
 
 abbrev pub placeOf : SpanRead → Result Place
-placeOf (SpanRead.Value a f t) = accepted (record { azimuth = a; from = f; to = t })
+placeOf (SpanRead.Value a f t) = accepted (record { centre = a; from = f; to = t })
 placeOf (SpanRead.Refused e) = refused (refusalOf e)
 
 abbrev pub placed : Ended Span → Result Place
-placed (passed sp q) = accepted (record { azimuth = sp .azimuth; from = q; to = q + sp .size })
+placed (passed sp q) = accepted (record { centre = sp .centre; from = q; to = q + sp .size })
 placed (halted x q) = refused x
 
 -- the position after a reading
@@ -102,12 +100,12 @@ position (passed a q) = accepted q
 position (halted x q) = refused x
 
 -- a frame's step
-abbrev pub stripThen : Float → ℕ → Step → Ended Strip
-stripThen azimuth bins (Step.At p) = passed (record { azimuth = azimuth; bins = bins }) p
-stripThen azimuth bins (Step.Refused e p) = halted (refusalOf e) p
+abbrev pub xdrRadialThen : Float → ℕ → Step → Ended XdrRadial
+xdrRadialThen centre bins (Step.At p) = passed (record { centre = centre; bins = bins }) p
+xdrRadialThen centre bins (Step.Refused e p) = halted (refusalOf e) p
 
-abbrev pub stripOf : FrameStep → Ended Strip
-stripOf x = stripThen (x .azimuth) (x .bins) (x .then)
+abbrev pub xdrRadialOf : FrameStep → Ended XdrRadial
+xdrRadialOf x = xdrRadialThen (x .centre) (x .bins) (x .then)
 
 -- the packet header's answer; and its first bin, which packet 16 alone has
 abbrev pub headerOf : HeaderRead → Result Header
@@ -139,25 +137,7 @@ centreIn r = then r λ g. accepted (g .value, g .next)
 
 -- ---- packet 28's payload
 
--- a component up to its radials: how many, and the gate figures. 27, 29, 30
-pub record Gates28 : Type 0 where
-  pub radials : ℕ
-  pub gateWidth : Float
-  pub firstGate : Float
-
-unfoldable pub componentHead : Flat Gates28
-componentHead = do
-  type ← int
-  refuse-if (not (eqb (atLeast0 type) 1)) (kind 27 (whole type ∷ []))
-  string
-  gateWidth ← Xdr.float
-  firstGate ← Xdr.float
-  counted parameter
-  radials ← int
-  refuse-if (leZ radials (pos 0)) (kind 29 (whole radials ∷ nat 0 ∷ []))
-  refuse-if (ltZ (pos 100000) radials) (kind 30 (whole radials ∷ nat 100000 ∷ []))
-  give (record { radials = atLeast0 radials; gateWidth = gateWidth; firstGate = firstGate })
-
+-- a component's head
 abbrev pub gatesOf : GatesRead → Result (Gates28 × ℕ)
 gatesOf (GatesRead.Value n w f p) = accepted (record { radials = n; gateWidth = w; firstGate = f }, p)
 gatesOf (GatesRead.Refused e) = refused (refusalOf e)

@@ -1,5 +1,4 @@
-// What an accepted body gives beside its rows.
-use crate::trailing::Check;
+// The figures of an accepted body, and what a caller asks of one before anything is written.
 use bytes::error::Level3DecodeError;
 
 pub enum Packet {
@@ -29,14 +28,18 @@ pub enum FiguresRead {
     Refused(Level3DecodeError),
 }
 
-// What a caller asks of a body before anything is written: the packets that it can use, its own check of the scale, room for the
-// physical values.
+// What a caller asks of a body: the packets that it can use, its own test of the step (9), room for the physical values.
 pub struct Terms {
     pub packet16: bool,
     pub packet_af1f: bool,
     pub packet28: bool,
-    pub scale: Check,
+    pub step: StepCheck,
     pub physical: Room,
+}
+
+pub enum StepCheck {
+    Passed,
+    NotPositive(f32),
 }
 
 pub enum Room {

@@ -1,8 +1,4 @@
 // Packet 28: the generic data packet. Its payload is handed on as a part, and read by XDR items one after another.
-use crate::figures::Figures;
-use crate::figures::Geometry;
-use crate::figures::Packet;
-use crate::spans::Next;
 use crate::spans::SpanRead;
 use bytes::error::Level3DecodeError;
 use bytes::error::XdrItem;
@@ -14,18 +10,14 @@ ghost use mathlib.Core.Path.{_≡_};
 ghost use Prim.Native.Nat.{_*_, _≤_, _<_};
 ghost use mathlib.Core.Bool.{_&&_};
 ghost use lib.Dec.{eqb, ltb};
-ghost use lib.ListN.{length};
 ghost use Rattle.bytes.specs.Reading.{walk, reached};
-ghost use Rattle.xdr.specs.Xdr.{atLeast0};
 ghost use Rattle.xdr.specs.Answers.{stepOf, from, after};
-ghost use Rattle.symbology.specs.Symbology.{productBlock, xdrFrame};
-ghost use Rattle.symbology.specs.Walk.{expectedOf, stripSpan, placeOf, placed, stripOf, componentHead, gatesOf, gatesThen};
+ghost use Rattle.symbology.specs.Symbology.{productBlock, xdrFrame, componentHead};
+ghost use Rattle.symbology.specs.Walk.{expectedOf, xdrRadialSpan, placeOf, placed, xdrRadialOf, gatesOf, gatesThen};
 
 const RADIAL_COMPONENT_TYPE: usize = 1;
 
 const MAX_XDR_RADIALS: i32 = 100000;
-
-const MAX_GATE_COUNT: usize = 4000000;
 
 fn expected_of(first: bool, bins: usize, own: usize) -> usize
     ensures { λ x. ⌜ x ≡ expectedOf first bins own ⌝ }
@@ -46,14 +38,14 @@ fn is_grid_large(r: usize, cells: usize) -> bool
     ensures { λ x. ⌜ x ≡ (eqb r 0 && ltb 4000000 cells) ⌝ }
 {
     if r == 0 {
-        return MAX_GATE_COUNT < cells;
+        return crate::radials::MAX_GATE_COUNT < cells;
     }
     false
 }
 
 // A radial's centre and its number of bins, and the position of its data.
 pub struct FrameStep {
-    pub azimuth: f64,
+    pub centre: f64,
     pub bins: usize,
     pub then: Step,
 }
@@ -68,7 +60,7 @@ pub fn xdr_frame(
     expected: usize,
 ) -> FrameStep
     requires { ⌜ «n_radials» ≤ 100000 ⌝ }
-    ensures { λ x. ⌜ stripOf x ≡ from (xdrFrame «n_radials» r (expectedOf first expected)) (now (buf .entry)) (stepOf st) ⌝ }
+    ensures { λ x. ⌜ xdrRadialOf x ≡ from (xdrFrame «n_radials» r (expectedOf first expected)) (now (buf .entry)) (stepOf st) ⌝ }
 {
     let a = xdr::steps::float_after(buf, st);
     let azimuth = a.value;
@@ -120,27 +112,27 @@ pub fn xdr_frame(
             n_radials,
             n_bins: bins,
             cells,
-            max: MAX_GATE_COUNT,
+            max: crate::radials::MAX_GATE_COUNT,
         },
     );
     FrameStep {
-        azimuth: crate::centre::azimuth_centre_28(azimuth, width),
+        centre: crate::centre::azimuth_centre_28(azimuth, width),
         bins,
         then: t10,
     }
 }
 
-pub fn strip_span(buf: &[u8], at: usize, n_radials: usize, n_bins: usize, r: usize) -> SpanRead
+pub fn xdr_radial_span(buf: &[u8], at: usize, n_radials: usize, n_bins: usize, r: usize) -> SpanRead
     requires { ⌜ «n_radials» ≤ 100000 ⌝ }
-    ensures { λ x. ⌜ placeOf x ≡ placed (walk (stripSpan «n_radials» «n_bins» r) (now (buf .entry)) at) ⌝ }
+    ensures { λ x. ⌜ placeOf x ≡ placed (walk (xdrRadialSpan «n_radials» «n_bins» r) (now (buf .entry)) at) ⌝ }
 {
     let f = xdr_frame(buf, Step::At(at), n_radials, r, false, n_bins);
-    let azimuth = f.azimuth;
+    let centre = f.centre;
     let bins = f.bins;
     let then = f.then;
     match then {
         Step::At(from) => SpanRead::Value {
-            azimuth,
+            centre,
             from,
             to: from + bins * 4,
         },

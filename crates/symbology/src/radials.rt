@@ -3,7 +3,7 @@ use crate::figures::Packet;
 use crate::spans::SpanRead;
 use bytes::error::Level3DecodeError;
 ghost use mathlib.Core.Path.{_≡_};
-ghost use Prim.Native.Nat.{_+_, _*_, _≤_, _<_};
+ghost use Prim.Native.Nat.{_*_, _≤_, _<_};
 ghost use mathlib.Core.Bool.{_||_};
 ghost use lib.Dec.{eqb, ltb};
 ghost use lib.ListN.{length};
@@ -12,7 +12,8 @@ ghost use Rattle.bytes.specs.Reading.{walk, outcome};
 ghost use Rattle.symbology.specs.Symbology.{covered, countWrong, isEmpty, overBody, packetHeader};
 ghost use Rattle.symbology.specs.Walk.{beamSpan, placeOf, placed, headerOf, firstOf};
 
-const MAX_GATE_COUNT: usize = 4000000;
+// Of all packets.
+pub const MAX_GATE_COUNT: usize = 4000000;
 
 pub struct PacketHeader {
     pub n_radials: usize,
@@ -98,7 +99,7 @@ pub fn beam_span(
     }
     let from = at + 6;
     SpanRead::Value {
-        azimuth: crate::centre::azimuth_centre_deg(start, width),
+        centre: crate::centre::azimuth_centre_deg(start, width),
         from,
         to: from + covered_by(packet, count),
     }

@@ -4,14 +4,14 @@ use crate::figures::Packet;
 use crate::trailing::Check;
 use bytes::error::Level3DecodeError;
 ghost use mathlib.Core.Path.{_≡_};
-ghost use Prim.Native.Nat.{_+_, _*_, _/_, _%_, _≤_, _<_};
+ghost use Prim.Native.Nat.{_+_, _*_, _/_, _%_, _≤_, _<_, min};
 ghost use mathlib.Core.Bool.{true, _&&_};
-ghost use lib.ListN.{length, getD, take, replicate};
-ghost use lib.Dec.{eqb};
+ghost use mathlib.Core.List.{_++_};
+ghost use lib.ListN.{length, getD, take, drop, replicate};
 ghost use Rattle.bytes.specs.Bytes.{u16At, u32At};
 ghost use Rattle.bytes.specs.Result.{accepted, then};
 ghost use Rattle.bytes.specs.Text.{all, leading};
-ghost use Rattle.symbology.specs.Rows.{reach, cells, rowAF1F, words, isLevel, levels, rowOf, codesOf, FullRow};
+ghost use Rattle.symbology.specs.Rows.{colourOf, reach, cells, rowAF1F, words, isLevel, levels, rowOf, codesOf, FullRow};
 ghost use Rattle.symbology.specs.Answers.{checkOf};
 
 // Whether the data make a row: always in packet 16; in AF1F 22, in packet 28 34.
@@ -32,10 +32,10 @@ pub fn write_row(packet: Packet, data: &[u8], row: &mut [u16])
 {
     match packet {
         Packet::Packet16 => {
-            bytes_write(data, row);
+            write_bytes(data, row);
         }
         Packet::PacketAf1f => {
-            rle_write(data, row);
+            write_runs(data, row);
         }
         Packet::Packet28 => {
             write_levels(data, row);
@@ -61,7 +61,7 @@ fn byte(buf: &[u8], i: usize) -> u32
 // ---- packet 16
 
 // The first bytes, one to each place of the row.
-fn bytes_write(src: &[u8], row: &mut [u16])
+fn write_bytes(src: &[u8], row: &mut [u16])
     requires { ⌜ length (now row) ≤ length (now src) ⌝ }
     ensures { λ _. ⌜ now (row .exit) ≡ take (length (now (row .entry))) (now (src .entry)) ⌝ }
 {
@@ -116,10 +116,10 @@ fn fill(part: &mut [u16], v: u16)
     }
 }
 
-// v at the first n places of the part, 16 at most. Whole blocks are stored, so the places after them may change too.
+// v at the first 16 places of the part, or at all where there are fewer. The caller needs n of them: a block is stored whole.
 fn spread(part: &mut [u16], n: usize, v: u16)
     requires { ⌜ (n ≤ 16) × (n ≤ length (now part)) ⌝ }
-    ensures { λ _. ⌜ take n (now (part .exit)) ≡ replicate n v ⌝ }
+    ensures { λ _. ⌜ now (part .exit) ≡ replicate (min 16 (length (now (part .entry)))) v ++ drop 16 (now (part .entry)) ⌝ }
 {
     if part.len() < 16 {
         fill(part, v);
@@ -128,8 +128,16 @@ fn spread(part: &mut [u16], n: usize, v: u16)
     }
 }
 
+// The low four bits, from a table: of a number that is known to come from one byte the compiler makes a block in more steps.
+fn colour_of(b: usize) -> u16
+    ensures { λ r. ⌜ r ≡ colourOf b ⌝ }
+{
+    let colours = [0u16, 1, 2, 3, 4, 5, 6, 7, 8, 9, 10, 11, 12, 13, 14, 15];
+    colours[b % 16]
+}
+
 // The runs' cells into the row, which they are known to fill.
-fn rle_write(runs: &[u8], row: &mut [u16])
+fn write_runs(runs: &[u8], row: &mut [u16])
     requires { ⌜ reach (length (now row)) (now runs) ≡ length (now row) ⌝ }
     ensures { λ _. ⌜ now (row .exit) ≡ take (length (now (row .entry))) (cells (now (runs .entry))) ⌝ }
 {
@@ -141,7 +149,7 @@ fn rle_write(runs: &[u8], row: &mut [u16])
         if row.len() - gate < run {
             return;
         }
-        spread(&mut row[gate..], run, (b % 16) as u16);
+        spread(&mut row[gate..], run, colour_of(b));
         gate += run;
         i += 1;
     }
@@ -153,7 +161,7 @@ fn rle_write(runs: &[u8], row: &mut [u16])
 // in a function of its own alone: where the bytes are used at once, it keeps them apart.
 fn low_first(buf: &[u8], at: usize) -> u32
     requires { ⌜ at + 4 ≤ length (now buf) ⌝ }
-    ensures { λ r. ⌜ eqb (r % 65536) 0 ≡ isLevel (u32At (now (buf .entry)) at) ⌝ }
+    ensures { λ r. ⌜ r ≡ getD (now (buf .entry)) at 0 + getD (now (buf .entry)) (at + 1) 0 * 256 + getD (now (buf .entry)) (at + 2) 0 * 65536 + getD (now (buf .entry)) (at + 3) 0 * 16777216 ⌝ }
 {
     let a = byte(buf, at);
     let b = byte(buf, at + 1);
@@ -162,36 +170,22 @@ fn low_first(buf: &[u8], at: usize) -> u32
     a + b * 256 + c * 65536 + d * 16777216
 }
 
-// Whether the integer at a place is a level.
-fn is_level(buf: &[u8], at: usize) -> bool
-    requires { ⌜ at + 4 ≤ length (now buf) ⌝ }
-    ensures { λ r. ⌜ r ≡ isLevel (u32At (now (buf .entry)) at) ⌝ }
-{
-    low_first(buf, at) % 65536 == 0
-}
-
-fn both(a: bool, b: bool) -> bool
-    ensures { λ r. ⌜ r ≡ a && b ⌝ }
-{
-    if a { b } else { false }
-}
-
-// Whether all integers are levels. It looks at every one, so that the loop has no exit but its end.
+// Whether all integers are levels. Their bits are put together and tested once, so that the loop has no test.
 fn all_levels(buf: &[u8]) -> bool
     ensures { λ r. ⌜ r ≡ all isLevel (words (now (buf .entry))) ⌝ }
 {
-    let mut ok = true;
+    let mut bits = 0u32;
     let mut i = 0;
     let mut left = buf.len() / 4;
     while 0 < left {
-        ok = both(ok, is_level(buf, i * 4));
+        bits = bits | low_first(buf, i * 4);
         i = i + 1;
         left = left - 1;
     }
-    ok
+    bits % 65536 == 0
 }
 
-// The number of the first that is not, or of all.
+// The place of the first integer that is not a level, or how many there are.
 fn search_bad(buf: &[u8]) -> usize
     ensures { λ r. ⌜ r ≡ leading isLevel (words (now (buf .entry))) ⌝ }
 {

@@ -1,14 +1,10 @@
-// Where a radial's data stand, and where a walk goes on.
+// Where a radial's data stand, where a walk goes on, and the plans: what a check hands to the writing.
 use crate::figures::Figures;
 use bytes::error::Level3DecodeError;
 
 // A radial's centre in degrees, and the place of its data.
 pub enum SpanRead {
-    Value {
-        azimuth: f64,
-        from: usize,
-        to: usize,
-    },
+    Value { centre: f64, from: usize, to: usize },
     Refused(Level3DecodeError),
 }
 

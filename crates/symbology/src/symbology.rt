@@ -4,6 +4,7 @@ use crate::figures::FiguresRead;
 use crate::figures::Geometry;
 use crate::figures::Packet;
 use crate::figures::Room;
+use crate::figures::StepCheck;
 use crate::figures::Terms;
 use crate::radials::HeaderRead;
 use crate::spans::BodyPlan;
@@ -13,20 +14,19 @@ use bytes::error::Buffer;
 use bytes::error::Level3DecodeError;
 use bytes::error::XdrItem;
 ghost use mathlib.Core.Path.{_≡_};
-ghost use mathlib.Core.Bool.{_&&_, not};
-ghost use Prim.Native.Nat.{_+_, _*_, _≤_};
+ghost use mathlib.Core.Bool.{_&&_};
+ghost use Prim.Native.Nat.{_*_, _≤_};
 ghost use lib.Dec.{eqb};
 ghost use lib.ListN.{length};
-ghost use lib.Seq.{slice};
 ghost use Rattle.bytes.specs.Result.{lent};
-ghost use Rattle.bytes.specs.Reading.{run, Given};
-ghost use Rattle.symbology.specs.Symbology.{Sweep, radialPacket, genericPacket, bodyShort, symbology};
+ghost use Rattle.bytes.specs.Reading.{run};
+ghost use Rattle.symbology.specs.Symbology.{radialPacket, genericPacket, bodyShort, symbology};
 ghost use Rattle.symbology.specs.Answers.{asked, tooFew, roomIn, admit, pictureOf, decodeFor, decodeOf, figuresIn, figuresOf, checkOf};
 ghost use Rattle.symbology.specs.Walk.{inPart, Plots};
 
 const RADIAL_PACKET_CODE: u16 = 16;
 
-const RLE_PACKET_CODE: u16 = 0xAF1F;
+const AF1F_PACKET_CODE: u16 = 0xAF1F;
 
 const GENERIC_PACKET_CODE: u16 = 28;
 
@@ -130,7 +130,7 @@ fn plan(body: &[u8]) -> BodyPlan
     if code == RADIAL_PACKET_CODE {
         return plan_radial_packet(body, Packet::Packet16);
     }
-    if code == RLE_PACKET_CODE {
+    if code == AF1F_PACKET_CODE {
         return plan_radial_packet(body, Packet::PacketAf1f);
     }
     if code == GENERIC_PACKET_CODE {
@@ -207,10 +207,10 @@ fn test_terms(terms: Terms, azimuths: usize, codes: usize, figures: Figures) -> 
     if !is_asked(terms, packet) {
         return Check::Refused(Level3DecodeError::SchemeMismatch);
     }
-    let scale = terms.scale;
-    match scale {
-        Check::Refused(error) => Check::Refused(error),
-        Check::Passed => test_room(
+    let step = terms.step;
+    match step {
+        StepCheck::NotPositive(x) => Check::Refused(Level3DecodeError::NonPositiveIncrement(x)),
+        StepCheck::Passed => test_room(
             terms,
             azimuths,
             codes,
@@ -263,7 +263,7 @@ pub fn decode_symbology(body: &[u8], azimuths: &mut [f64], codes: &mut [u16]) ->
         packet16: true,
         packet_af1f: true,
         packet28: true,
-        scale: Check::Passed,
+        step: StepCheck::Passed,
         physical: Room::Unasked,
     };
     decode_for(body, terms, azimuths, codes)

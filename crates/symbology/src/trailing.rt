@@ -1,4 +1,4 @@
-// The bytes after the body.
+// The bytes after the compressed stream; the sweep reading does not call this.
 use bytes::error::Level3DecodeError;
 ghost use mathlib.Core.Path.{_≡_};
 ghost use Rattle.symbology.specs.Trailing.{trailing};

@@ -6,12 +6,10 @@ use crate::spans::PlanRead;
 use crate::spans::SpanRead;
 use crate::trailing::Check;
 ghost use mathlib.Core.Path.{_≡_};
-ghost use mathlib.Core.List.{List};
-ghost use lib.Ieee.{Float};
 ghost use Prim.Native.Nat.{_*_, _≤_};
 ghost use lib.ListN.{length};
 ghost use Rattle.bytes.specs.Result.{accepted, lent};
-ghost use Rattle.bytes.specs.Reading.{walk, run, Given};
+ghost use Rattle.bytes.specs.Reading.{walk, run};
 ghost use Rattle.symbology.specs.Answers.{joined};
 ghost use Rattle.symbology.specs.Walk.{anyFrame, anyRadial, anyWalk, placeOf, placed, nextOf, position, Accepted, rowIn, centreIn, sweepFrom, Plans};
 
@@ -44,7 +42,7 @@ pub fn frame_span(
             n_bins,
             r,
         ),
-        Packet::Packet28 => crate::generic::strip_span(s, at, n_radials, n_bins, r),
+        Packet::Packet28 => crate::generic::xdr_radial_span(s, at, n_radials, n_bins, r),
     }
 }
 
@@ -63,7 +61,7 @@ fn check_radial(
     match frame_span(packet, s, at, n_radials, n_bins, r) {
         SpanRead::Refused(error) => Next::Refused(error),
         SpanRead::Value {
-            azimuth: _,
+            centre: _,
             from,
             to,
         } => match crate::rows::check_row(packet, n_bins, r, &s[from..to]) {
@@ -115,7 +113,7 @@ pub fn plan_radials(s: &[u8], at: usize, figures: Figures) -> PlanRead
 
 // A radial that was written: its centre, and the position after it.
 pub struct Written {
-    pub azimuth: f64,
+    pub centre: f64,
     pub next: usize,
 }
 
@@ -129,17 +127,18 @@ fn write_radial(
     row: &mut [u16],
 ) -> Written
     requires { ⌜ («n_radials» ≤ 100000) × Accepted (run (anyRadial packet «n_radials» (length (now row)) r) (now s) at) ⌝ }
-    ensures { λ x. ⌜ accepted (x .azimuth, x .next) ≡ centreIn (run (anyRadial packet «n_radials» (length (now (row .entry))) r) (now (s .entry)) at) ⌝ }
+    ensures { λ x. ⌜ accepted (x .centre, x .next) ≡ centreIn (run (anyRadial packet «n_radials» (length (now (row .entry))) r) (now (s .entry)) at) ⌝ }
     ensures { λ x. ⌜ now (row .exit) ≡ rowIn (run (anyRadial packet «n_radials» (length (now (row .entry))) r) (now (s .entry)) at) ⌝ }
 {
     let n_bins = row.len();
     match frame_span(packet, s, at, n_radials, n_bins, r) {
-        SpanRead::Value { azimuth, from, to } => {
+        SpanRead::Value { centre, from, to } => {
             crate::rows::write_row(packet, &s[from..to], row);
-            Written { azimuth, next: to }
+            Written { centre, next: to }
         }
-        SpanRead::Refused(error) => Written {
-            azimuth: 0.0,
+        // Can't be: the check accepted this radial.
+        SpanRead::Refused(_) => Written {
+            centre: 0.0,
             next: at,
         },
     }
@@ -166,7 +165,7 @@ pub fn write_radials(
     while radial < n_radials {
         let end = cell + n_bins;
         let w = write_radial(packet, s, at, n_radials, radial, &mut codes[cell..end]);
-        azimuths[radial] = w.azimuth;
+        azimuths[radial] = w.centre;
         at = w.next;
         cell = end;
         radial += 1;

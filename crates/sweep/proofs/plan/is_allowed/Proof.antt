@@ -2,116 +2,89 @@ use Rattle.sweep.specs.Sweep.{allowed}
 use borrow.Author.Needs.{needs}
 use Rattle.sweep.proofs.plan.is_allowed.Statement.{statement}
 use Rattle.sweep.proofs.plan.is_allowed.Tie as tie
-use Rattle.sweep.proofs.plan.is_allowed.Reads as reads
-use Rattle.sweep.proofs.plan.is_allowed.Lts as lts
 
--- src/plan.rt:70:48
 enum-told : tie.Need-enum-told
 enum-told c = search needs
 
--- src/plan.rt:71:26
 enum-told-2 : tie.Need-enum-told-2
 enum-told-2 c = search needs
 
--- src/plan.rt:72:29
 enum-told-3 : tie.Need-enum-told-3
 enum-told-3 c = search needs
 
--- src/plan.rt:73:33
 enum-told-4 : tie.Need-enum-told-4
 enum-told-4 c = search needs
 
--- src/plan.rt:74:35
 enum-told-5 : tie.Need-enum-told-5
 enum-told-5 c = search needs
 
--- src/plan.rt:75:33
 enum-told-6 : tie.Need-enum-told-6
 enum-told-6 c = search needs
 
--- src/plan.rt:77:26
 enum-told-7 : tie.Need-enum-told-7
 enum-told-7 c = search needs
 
--- src/plan.rt:78:33
 enum-told-8 : tie.Need-enum-told-8
 enum-told-8 c = search needs
 
--- src/plan.rt:79:35
 enum-told-9 : tie.Need-enum-told-9
 enum-told-9 c = search needs
 
--- src/plan.rt:80:33
 enum-told-10 : tie.Need-enum-told-10
 enum-told-10 c = search needs
 
--- src/plan.rt:82:45
 enum-told-11 : tie.Need-enum-told-11
 enum-told-11 c = search needs
 
--- src/plan.rt:83:33
 enum-told-12 : tie.Need-enum-told-12
 enum-told-12 c = search needs
 
--- src/plan.rt:84:35
 enum-told-13 : tie.Need-enum-told-13
 enum-told-13 c = search needs
 
--- src/plan.rt:85:33
 enum-told-14 : tie.Need-enum-told-14
 enum-told-14 c = search needs
 
--- src/plan.rt:66:1
 returns : tie.Need-returns
 unfolding allowed
 returns c = rw (c .enum-told .given .1)
 
--- src/plan.rt:66:1
 returns-2 : tie.Need-returns-2
 unfolding allowed
 returns-2 c = rw (c .enum-told2 .given .1)
 
--- src/plan.rt:66:1
 returns-3 : tie.Need-returns-3
 unfolding allowed
 returns-3 c = rw (c .before .before .enum-told3 .given .1, c .enum-told4 .given .1)
 
--- src/plan.rt:66:1
 returns-4 : tie.Need-returns-4
 unfolding allowed
 returns-4 c = rw (c .before .before .enum-told3 .given .1, c .enum-told5 .given .1)
 
--- src/plan.rt:66:1
 returns-5 : tie.Need-returns-5
 unfolding allowed
 returns-5 c = rw (c .before .before .enum-told3 .given .1, c .enum-told6 .given .1)
 
--- src/plan.rt:66:1
 returns-6 : tie.Need-returns-6
 unfolding allowed
 returns-6 c = rw (c .before .before .enum-told7 .given .1, c .enum-told8 .given .1)
 
--- src/plan.rt:66:1
 returns-7 : tie.Need-returns-7
 unfolding allowed
 returns-7 c = rw (c .before .before .enum-told7 .given .1, c .enum-told9 .given .1)
 
--- src/plan.rt:66:1
 returns-8 : tie.Need-returns-8
 unfolding allowed
 returns-8 c = rw (c .before .before .enum-told7 .given .1, c .enum-told10 .given .1)
 
--- src/plan.rt:66:1
 returns-9 : tie.Need-returns-9
 unfolding allowed
 returns-9 c = rw (c .before .before .enum-told11 .given .1, c .enum-told12 .given .1)
 
--- src/plan.rt:66:1
 returns-10 : tie.Need-returns-10
 unfolding allowed
 returns-10 c = rw (c .before .before .enum-told11 .given .1, c .enum-told13 .given .1)
 
--- src/plan.rt:66:1
 returns-11 : tie.Need-returns-11
 unfolding allowed
 returns-11 c = rw (c .before .before .enum-told11 .given .1, c .enum-told14 .given .1)

@@ -2,111 +2,81 @@ use mir.Syntax.{w32}
 use mir.Facts.{toZ-ofZ}
 use Rattle.sweep.proofs.Timed.{timed}
 use Rattle.head.specs.Outcome.{place}
-use native.Mathlib.Omega.{arith}
 use mathlib.Core.Path.{sym, ap, _∙_}
 use Rattle.head.proofs.Bounds.{header-inside}
 use Rattle.sweep.specs.Sweep.{headOf}
 use borrow.Author.Needs.{needs}
 use Rattle.sweep.proofs.plan.read_head.Statement.{statement}
 use Rattle.sweep.proofs.plan.read_head.Tie as tie
-use Rattle.sweep.proofs.plan.read_head.Reads as reads
-use Rattle.sweep.proofs.plan.read_head.Lts as lts
-use Rattle.head.proofs.header.find_awips_token.Reads as find-awips-token-reads
-use Rattle.head.proofs.header.find_message_header.Reads as find-message-header-reads
-use Rattle.head.proofs.header.scan_time.Reads as scan-time-reads
-use Rattle.head.proofs.pdb.read_pdb_fields.Reads as read-pdb-fields-reads
-use Rattle.scale.proofs.physical.scale_fields.Reads as scale-fields-reads
 
--- src/plan.rt:36:23
 find-awips-token-requires : tie.Need-find-awips-token-requires
 find-awips-token-requires c κs = search needs
 
--- src/plan.rt:37:19
 enum-known-k : tie.Need-enum-known-k
 enum-known-k c = search needs
 
--- src/plan.rt:38:24
 enum-known-e : tie.Need-enum-known-e
 enum-known-e c = search needs
 
--- src/plan.rt:38:30
 returns : tie.Need-returns
 unfolding headOf
 returns c = rw (← (c .before .before .before .find-awips-token .ensures), c .before .e .given .1)
 
--- src/plan.rt:40:24
 find-message-header-requires : tie.Need-find-message-header-requires
 find-message-header-requires c κs = search needs
 
--- src/plan.rt:41:19
 enum-known-k-2 : tie.Need-enum-known-k-2
 enum-known-k-2 c = search needs
 
--- src/plan.rt:42:24
 enum-known-e-2 : tie.Need-enum-known-e-2
 enum-known-e-2 c = search needs
 
--- src/plan.rt:42:30
 returns-2 : tie.Need-returns-2
 unfolding headOf
 returns-2 c = rw (← (c .before .before .before .before .before .before .before .find-awips-token .ensures), c .before .before .before .before .before .k .given .1, ← (c .before .before .before .find-message-header .ensures), c .before .e2 .given .1)
 
--- src/plan.rt:44:17
 add-block : tie.Need-add-block
 add-block c = search (needs, header-inside _ _ (sym (c .before .before .before .find-message-header .ensures) ∙ ap place (c .before .k2 .given .1)))
 
--- src/plan.rt:45:24
 read-pdb-fields-requires : tie.Need-read-pdb-fields-requires
 read-pdb-fields-requires c κs = search needs
 
--- src/plan.rt:46:27
 enum-known-f : tie.Need-enum-known-f
 enum-known-f c = search needs
 
--- src/plan.rt:47:29
 enum-known-e-3 : tie.Need-enum-known-e-3
 enum-known-e-3 c = search needs
 
--- src/plan.rt:47:35
 returns-3 : tie.Need-returns-3
 unfolding headOf
 returns-3 c = rw (← (c .before .before .before .before .before .before .before .before .before .before .before .find-awips-token .ensures), c .before .before .before .before .before .before .before .before .before .k .given .1, ← (c .before .before .before .before .before .before .before .find-message-header .ensures), c .before .before .before .before .before .k2 .given .1, ← (c .before .before .before .read-pdb-fields .ensures), c .before .e3 .given .1)
 
--- src/plan.rt:49:22
 scan-time-requires : tie.Need-scan-time-requires
 scan-time-requires c κs = search needs
 
--- src/plan.rt:50:22
 enum-known-t : tie.Need-enum-known-t
 enum-known-t c = search needs
 
--- src/plan.rt:51:27
 enum-known-e-4 : tie.Need-enum-known-e-4
 enum-known-e-4 c = search needs
 
--- src/plan.rt:51:33
 returns-4 : tie.Need-returns-4
 unfolding headOf
 returns-4 c = rw (← (c .before .before .before .before .before .before .before .before .before .before .before .before .before .before .before .before .find-awips-token .ensures), c .before .before .before .before .before .before .before .before .before .before .before .before .before .before .k .given .1, ← (c .before .before .before .before .before .before .before .before .before .before .before .before .find-message-header .ensures), c .before .before .before .before .before .before .before .before .before .before .k2 .given .1, ← (c .before .before .before .before .before .before .before .before .read-pdb-fields .ensures), c .before .before .before .before .before .before .f .given .1, ← (timed _ _ (toZ-ofZ {w = w32} {z = c .before .before .before .before .before .before .f .given .0 .0 .«scan_seconds»} (search needs)) (c .before .before .before .scan-time .ensures)), c .before .e4 .given .1)
 
--- src/plan.rt:53:11
 scale-fields-requires : tie.Need-scale-fields-requires
 scale-fields-requires c κs = search needs
 
--- src/plan.rt:54:30
 enum-known-e-5 : tie.Need-enum-known-e-5
 enum-known-e-5 c = search needs
 
--- src/plan.rt:55:28
 enum-known-scaling : tie.Need-enum-known-scaling
 enum-known-scaling c = search needs
 
--- src/plan.rt:33:1
 returns-5 : tie.Need-returns-5
 unfolding headOf
 returns-5 c = rw (← (c .before .before .before .before .before .before .before .before .before .before .before .before .before .before .before .before .before .before .before .before .find-awips-token .ensures), c .before .before .before .before .before .before .before .before .before .before .before .before .before .before .before .before .before .before .k .given .1, ← (c .before .before .before .before .before .before .before .before .before .before .before .before .before .before .before .before .find-message-header .ensures), c .before .before .before .before .before .before .before .before .before .before .before .before .before .before .k2 .given .1, ← (c .before .before .before .before .before .before .before .before .before .before .before .before .read-pdb-fields .ensures), c .before .before .before .before .before .before .before .before .before .before .f .given .1, ← (timed _ _ (toZ-ofZ {w = w32} {z = c .before .before .before .before .before .before .before .before .before .before .f .given .0 .0 .«scan_seconds»} (search needs)) (c .before .before .before .before .before .before .before .scan-time .ensures)), c .before .before .before .before .before .t .given .1, ← (c .before .before .before .scale-fields .ensures), c .before .e5 .given .1)
 
--- src/plan.rt:33:1
 returns-6 : tie.Need-returns-6
 unfolding headOf
 returns-6 c = rw (← (c .before .before .before .before .before .before .before .before .before .before .before .before .before .before .before .before .before .before .before .before .find-awips-token .ensures), c .before .before .before .before .before .before .before .before .before .before .before .before .before .before .before .before .before .before .k .given .1, ← (c .before .before .before .before .before .before .before .before .before .before .before .before .before .before .before .before .find-message-header .ensures), c .before .before .before .before .before .before .before .before .before .before .before .before .before .before .k2 .given .1, ← (c .before .before .before .before .before .before .before .before .before .before .before .before .read-pdb-fields .ensures), c .before .before .before .before .before .before .before .before .before .before .f .given .1, ← (timed _ _ (toZ-ofZ {w = w32} {z = c .before .before .before .before .before .before .before .before .before .before .f .given .0 .0 .«scan_seconds»} (search needs)) (c .before .before .before .before .before .before .before .scan-time .ensures)), c .before .before .before .before .before .t .given .1, ← (c .before .before .before .scale-fields .ensures), c .before .scaling .given .1)

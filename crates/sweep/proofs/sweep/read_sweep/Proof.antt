@@ -30,130 +30,99 @@ here c =
       figures-are = ap figuresOf (sym (c .before .before .f .given .1)) ∙ c .before .before .before .before .before .before .before .before .decode-for .ensures .0;
     }
 
--- src/sweep.rt:46:22
 read-head-requires : tie.Need-read-head-requires
 read-head-requires c κs = search needs
 
--- src/sweep.rt:47:25
 enum-known-h : tie.Need-enum-known-h
 enum-known-h c = search needs
 
--- src/sweep.rt:48:27
 enum-known-e : tie.Need-enum-known-e
 enum-known-e c = search needs
 
--- src/sweep.rt:48:33
 returns : tie.Need-returns
 returns c = head-refused _ _ _ _ _ _ _ (ap headReadOf (sym (c .before .e .given .1)) ∙ c .before .before .before .read-head .ensures)
 
--- src/sweep.rt:52:9
 declared-scale-requires : tie.Need-declared-scale-requires
 declared-scale-requires c κs = search needs
 
--- src/sweep.rt:53:9
 terms-for-requires : tie.Need-terms-for-requires
 terms-for-requires c κs = search needs
 
--- src/sweep.rt:54:25
 decode-for-requires : tie.Need-decode-for-requires
 decode-for-requires c κs = search needs
 
--- src/sweep.rt:55:28
 enum-known-f : tie.Need-enum-known-f
 enum-known-f c = search needs
 
--- src/sweep.rt:56:30
 enum-known-e-2 : tie.Need-enum-known-e-2
 enum-known-e-2 c = search needs
 
--- src/sweep.rt:56:36
 same-length : tie.Need-same-length
 same-length c = search needs
 
--- src/sweep.rt:56:36
 same-length-2 : tie.Need-same-length-2
 same-length-2 c = search needs
 
--- src/sweep.rt:56:36
 returns-2 : tie.Need-returns-2
 returns-2 c = body-refused _ _ _ _ (now (c .before .before .before .before .before .before .before .before .before .before .before .before .before .before .before .before .before .before .before .before .before .before .args .azimuths)) (now (c .before .before .before .before .before .before .before .before .before .before .before .before .before .before .before .before .before .before .before .before .before .before .args .codes)) (now (c .before .before .before .before .before .before .before .before .before .before .before .before .before .before .before .before .before .before .before .before .before .before .args .physical)) (c .before .before .before .before .before .before .before .before .before .before .before .before .before .before .h .given .0 .0) (c .before .before .before .before .before .before .before .before .before .before .before .declared-scale .result) (c .before .before .before .before .before .before .before .before .before .before .terms-for .result) (ap headReadOf (sym (c .before .before .before .before .before .before .before .before .before .before .before .before .before .before .h .given .1)) ∙ c .before .before .before .before .before .before .before .before .before .before .before .before .before .before .before .before .read-head .ensures) (c .before .before .before .before .before .before .before .before .before .before .before .declared-scale .ensures) (c .before .before .before .before .before .before .before .before .before .before .terms-for .ensures) (ap figuresOf (sym (c .before .e2 .given .1)) ∙ c .before .before .before .before .before .before .before .decode-for .ensures .0) (c .before .before .before .before .before .before .before .decode-for .ensures .1 .0) (c .before .before .before .before .before .before .before .decode-for .ensures .1 .1)
 
--- src/sweep.rt:58:17
 mul-cells : tie.Need-mul-cells
 mul-cells c = record { fits = omega (arith, drawn-here (here c) .codes-room, c .before .before .before .before .before .before .before .before .before .before .before .before .before .before .before .before .before .before .before .before .before .before .before .good .1 .1 .1 .1 .1 .0) }
 
--- src/sweep.rt:59:68
 slice-reshare-prefix-fill-physical : tie.Need-slice-reshare-prefix-fill-physical
 slice-reshare-prefix-fill-physical c = search (needs, drawn-here (here c) .codes-room)
 
--- src/sweep.rt:59:68
 slice-aggregate-fill-physical : tie.Need-slice-aggregate-fill-physical
 slice-aggregate-fill-physical c = sym (length-take-le _ _ (slice-reshare-prefix-fill-physical (c .before)))
 
--- src/sweep.rt:59:11
 fill-physical-requires : tie.Need-fill-physical-requires
 fill-physical-requires c κs = search needs
 
--- src/sweep.rt:60:25
 enum-known-e-3 : tie.Need-enum-known-e-3
 enum-known-e-3 c = search needs
 
--- src/sweep.rt:60:31
 same-length-3 : tie.Need-same-length-3
 same-length-3 c = search needs
 
--- src/sweep.rt:60:31
 same-length-4 : tie.Need-same-length-4
 same-length-4 c = search needs
 
--- src/sweep.rt:60:31
 same-length-5 : tie.Need-same-length-5
 same-length-5 c = search needs
 
--- src/sweep.rt:60:31
 returns-3 : tie.Need-returns-3
 returns-3 c = fill-accepts (here (c .before .before .before .before .before .before .before .before)) (c .before .before .before .before .before .before .before .before .before .before .before .before .before .before .before .before .decode-for .ensures .1 .1) (ap filledOf (sym (c .before .e3 .given .1)) ∙ c .before .before .before .before .before .fill-physical .ensures .0)
 
 enum-told : tie.Need-enum-told
 enum-told c = search needs
 
--- src/sweep.rt:64:36
 enum-known-read : tie.Need-enum-known-read
 enum-known-read c = search needs
 
--- src/sweep.rt:65:34
 enum-known-read-2 : tie.Need-enum-known-read-2
 enum-known-read-2 c = search needs
 
--- src/sweep.rt:32:1
 same-length-6 : tie.Need-same-length-6
 same-length-6 c = search needs
 
--- src/sweep.rt:32:1
 same-length-7 : tie.Need-same-length-7
 same-length-7 c = search needs
 
--- src/sweep.rt:32:1
 same-length-8 : tie.Need-same-length-8
 same-length-8 c = search needs
 
--- src/sweep.rt:32:1
 returns-4 : tie.Need-returns-4
 returns-4 c = scale-accepts (here (c .before .before .before .before .before .before .before .before .before .before)) (c .before .read .given .1)
 
--- src/sweep.rt:32:1
 same-length-9 : tie.Need-same-length-9
 same-length-9 c = search needs
 
--- src/sweep.rt:32:1
 same-length-10 : tie.Need-same-length-10
 same-length-10 c = search needs
 
--- src/sweep.rt:32:1
 same-length-11 : tie.Need-same-length-11
 same-length-11 c = search needs
 
--- src/sweep.rt:32:1
 returns-5 : tie.Need-returns-5
 returns-5 c = read (here (c .before .before .before .before .before .before .before .before .before .before)) (c .before .before .before .before .before .before .before .before .before .before .before .before .before .before .before .before .before .before .decode-for .ensures .1 .1) (c .before .read2 .given .1) (c .before .before .before .before .before .before .before .before .before .before .before .before .before .before .before .before .before .before .decode-for .ensures .1 .0) (c .before .before .before .before .before .before .before .fill-physical .ensures .1)
 

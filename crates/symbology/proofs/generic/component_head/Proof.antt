@@ -1,4 +1,4 @@
-use Rattle.symbology.specs.Walk.{Gates28, componentHead}
+use Rattle.symbology.specs.Symbology.{Gates28, componentHead}
 use Rattle.xdr.proofs.Lists.{go-on, go-by, check-as, from-give, from-passed}
 use Rattle.xdr.specs.Answers.{stepOf}
 use Rattle.xdr.specs.Xdr.{atLeast0}

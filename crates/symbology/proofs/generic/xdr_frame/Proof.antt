@@ -2,8 +2,8 @@ use Rattle.symbology.specs.Walk.{expectedOf}
 use Rattle.xdr.specs.Answers.{stepOf}
 use Rattle.bytes.specs.Reading.{passed, onward}
 use Rattle.symbology.specs.Centre.{centre28}
-use Rattle.symbology.specs.Symbology.{Strip, xdrFrame}
-use Rattle.symbology.proofs.Strips.{strip-then}
+use Rattle.symbology.specs.Symbology.{XdrRadial, xdrFrame}
+use Rattle.symbology.proofs.XdrFrames.{xdr-radial-then}
 use Rattle.xdr.proofs.Lists.{go-on, go-by, check-as, from-give}
 use Rattle.xdr.specs.Xdr.{atLeast0}
 use Rattle.bytes.specs.Refusal.{kind, nat}
@@ -90,8 +90,8 @@ returns c = let v = c .before .before .before .before .before .before .before .b
     let x3 : kind 32 (nat r ∷ nat n ∷ nat bins ∷ []) ≡ kind 32 (nat r ∷ nat n ∷ nat (atLeast0 v) ∷ []) = rw m refl in
     let b4 : c .before .before .is-grid-large .result ≡ eqb r 0 && ltb 4000000 (radials * atLeast0 v) = c .before .before .is-grid-large .ensures ∙ ap (λ x. eqb r 0 && ltb 4000000 x) k in
     let x4 : kind 33 (nat radials ∷ nat bins ∷ nat cells ∷ nat 4000000 ∷ []) ≡ kind 33 (nat radials ∷ nat (atLeast0 v) ∷ nat (radials * atLeast0 v) ∷ nat 4000000 ∷ []) = rw (k, m) refl in
-    let q : _≡_ {A = Strip} (record { azimuth = c .azimuth-centre-28 .result; bins = bins }) (record { azimuth = centre28 (c .before .before .before .before .before .before .before .before .before .before .before .before .before .before .before .float-after .result .value) (c .before .before .before .before .before .before .before .before .before .before .before .before .before .float-after2 .result .value); bins = atLeast0 v }) = rw (c .azimuth-centre-28 .ensures, m) refl in
-    strip-then (c .azimuth-centre-28 .result) bins (c .before .refuse-if4 .result)
+    let q : _≡_ {A = XdrRadial} (record { centre = c .azimuth-centre-28 .result; bins = bins }) (record { centre = centre28 (c .before .before .before .before .before .before .before .before .before .before .before .before .before .before .before .float-after .result .value) (c .before .before .before .before .before .before .before .before .before .before .before .before .before .float-after2 .result .value); bins = atLeast0 v }) = rw (c .azimuth-centre-28 .ensures, m) refl in
+    xdr-radial-then (c .azimuth-centre-28 .result) bins (c .before .refuse-if4 .result)
     ∙ ap (λ x. onward (stepOf (c .before .refuse-if4 .result)) (λ _ p. passed x p)) q
     ∙ go-on _ _ _ _ _ (c .before .before .before .before .before .before .before .before .before .before .before .before .before .before .before .float-after .ensures)
     (go-by _ _ _ _ (c .before .before .before .before .before .before .before .before .before .before .before .before .before .before .skip-word .ensures)

@@ -1,4 +1,3 @@
-use Rattle.symbology.proofs.LowFirst.{low-first}
 use borrow.Author.Needs.{needs}
 use Rattle.symbology.proofs.rows.low_first.Statement.{statement}
 use Rattle.symbology.proofs.rows.low_first.Tie as tie
@@ -43,7 +42,7 @@ add-result-3 : tie.Need-add-result-3
 add-result-3 c = search needs
 
 returns : tie.Need-returns
-returns c = low-first _ _ (c .before .before .before .byte .ensures) (c .before .before .byte2 .ensures) (c .before .byte3 .ensures) (c .byte4 .ensures)
+returns c = search needs
 
 pub low-first-spec : {M : Type 1} → statement M
 low-first-spec =

@@ -2,7 +2,7 @@ use borrow.Author.Needs.{needs}
 use native.Mathlib.Omega.{arith}
 use Prim.Native.Nat.{_-_}
 use lib.ListN.{length}
-use Rattle.symbology.proofs.Runs.{Reached, reached-first, reached-end, reached-over, reached-turn}
+use Rattle.symbology.proofs.RunLoops.{Reached, reached-first, reached-end, reached-over, reached-turn}
 use Rattle.symbology.proofs.rows.rle_reach.Statement.{statement}
 use Rattle.symbology.proofs.rows.rle_reach.Tie as tie
 

@@ -23,13 +23,13 @@ same-length : tie.Need-same-length
 same-length c = search needs
 
 returns : tie.Need-returns
-returns c = spread-all (c .before .before .before .before .before .before .args .n) (c .before .before .before .before .before .before .args .v) (now (c .before .before .before .before .before .before .args .part)) (omega arith) (c .before .before .fill .ensures)
+returns c = spread-all (c .before .before .before .before .before .before .args .v) (now (c .before .before .before .before .before .before .args .part)) (omega arith) (c .before .before .fill .ensures)
 
 same-length-2 : tie.Need-same-length-2
 same-length-2 c = search needs
 
 returns-2 : tie.Need-returns-2
-returns-2 c = spread-block (c .before .before .before .before .before .before .args .n) (c .before .before .before .before .before .before .args .v) (now (c .before .before .before .before .before .before .args .part)) (omega arith) (omega arith) (c .before .before .fill2 .ensures)
+returns-2 c = spread-block (c .before .before .before .before .before .before .args .v) (now (c .before .before .before .before .before .before .args .part)) (omega arith) (c .before .before .fill2 .ensures)
 
 pub spread-spec : {M : Type 1} → statement M
 spread-spec =

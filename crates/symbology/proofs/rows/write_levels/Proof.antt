@@ -4,7 +4,7 @@ use native.Mathlib.Omega.{arith}
 use Prim.Native.Nat.{_-_}
 use lib.ListN.{length}
 use Rattle.symbology.specs.Rows.{words}
-use Rattle.symbology.proofs.Words.{words-length}
+use Rattle.symbology.proofs.RowWords.{words-length}
 use Rattle.symbology.proofs.LevelLoops.{level-code}
 use Rattle.symbology.proofs.Stores.{Stored, stored-first, stored-turn, stored-end}
 use Rattle.symbology.proofs.rows.write_levels.Statement.{statement}

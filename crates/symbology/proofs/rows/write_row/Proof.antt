@@ -6,16 +6,16 @@ use Rattle.symbology.proofs.rows.write_row.Tie as tie
 enum-told : tie.Need-enum-told
 enum-told c = search needs
 
-bytes-write-requires : tie.Need-bytes-write-requires
+write-bytes-requires : tie.Need-write-bytes-requires
 unfolding FullRow
-bytes-write-requires c κs = rw (c .before .enum-told .given .1) at (c .before .before .before .before .before .pre)
+write-bytes-requires c κs = rw (c .before .enum-told .given .1) at (c .before .before .before .before .before .pre)
 
 enum-told-2 : tie.Need-enum-told-2
 enum-told-2 c = search needs
 
-rle-write-requires : tie.Need-rle-write-requires
+write-runs-requires : tie.Need-write-runs-requires
 unfolding FullRow
-rle-write-requires c κs = rw (c .before .enum-told2 .given .1) at (c .before .before .before .before .before .pre)
+write-runs-requires c κs = rw (c .before .enum-told2 .given .1) at (c .before .before .before .before .before .pre)
 
 enum-told-3 : tie.Need-enum-told-3
 enum-told-3 c = search needs
@@ -29,14 +29,14 @@ same-length c = search needs
 
 returns : tie.Need-returns
 unfolding codesOf
-returns c = rw (c .before .before .before .before .enum-told .given .1) (c .before .before .bytes-write .ensures)
+returns c = rw (c .before .before .before .before .enum-told .given .1) (c .before .before .write-bytes .ensures)
 
 same-length-2 : tie.Need-same-length-2
 same-length-2 c = search needs
 
 returns-2 : tie.Need-returns-2
 unfolding codesOf
-returns-2 c = rw (c .before .before .before .before .enum-told2 .given .1) (c .before .before .rle-write .ensures)
+returns-2 c = rw (c .before .before .before .before .enum-told2 .given .1) (c .before .before .write-runs .ensures)
 
 same-length-3 : tie.Need-same-length-3
 same-length-3 c = search needs
@@ -50,9 +50,9 @@ write-row-spec =
     tie.close
     (tie.spec
     enum-told
-    bytes-write-requires
+    write-bytes-requires
     enum-told-2
-    rle-write-requires
+    write-runs-requires
     enum-told-3
     write-levels-requires
     same-length

@@ -11,8 +11,8 @@ returns : tie.Need-returns
 unfolding admit
 returns c = rw (← c .before .is-asked .ensures) (simp (c .if1 .taken))
 
-enum-known-scale : tie.Need-enum-known-scale
-enum-known-scale c = search needs
+enum-known-step : tie.Need-enum-known-step
+enum-known-step c = search needs
 
 enum-told : tie.Need-enum-told
 enum-told c = search needs
@@ -25,7 +25,7 @@ test-room-requires c κs = search needs
 
 returns-2 : tie.Need-returns-2
 unfolding admit
-returns-2 c = rw (← c .before .before .before .before .is-asked .ensures, c .before .scale .given .1) (simp (c .before .before .before .if1 .left))
+returns-2 c = rw (← c .before .before .before .before .is-asked .ensures, c .before .step .given .1) (simp (c .before .before .before .if1 .left))
 
 returns-3 : tie.Need-returns-3
 returns-3 c = admit-fine _ _ _ _ (c .before .before .before .before .before .is-asked .ensures) (c .before .before .before .before .if1 .left) (c .before .before .enum-told .given .1) (c .test-room .ensures)
@@ -36,7 +36,7 @@ test-terms-spec =
     (tie.spec
     is-asked-requires
     returns
-    enum-known-scale
+    enum-known-step
     enum-told
     mul-test-room
     test-room-requires

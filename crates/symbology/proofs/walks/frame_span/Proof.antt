@@ -18,8 +18,8 @@ beam-span-requires-2 c κs = search needs
 enum-told-3 : tie.Need-enum-told-3
 enum-told-3 c = search needs
 
-strip-span-requires : tie.Need-strip-span-requires
-strip-span-requires c κs = search needs
+xdr-radial-span-requires : tie.Need-xdr-radial-span-requires
+xdr-radial-span-requires c κs = search needs
 
 returns : tie.Need-returns
 unfolding anyFrame
@@ -31,7 +31,7 @@ returns-2 c = rw (c .before .enum-told2 .given .1) (c .beam-span2 .ensures)
 
 returns-3 : tie.Need-returns-3
 unfolding anyFrame
-returns-3 c = rw (c .before .enum-told3 .given .1) (c .strip-span .ensures)
+returns-3 c = rw (c .before .enum-told3 .given .1) (c .xdr-radial-span .ensures)
 
 pub frame-span-spec : {M : Type 1} → statement M
 frame-span-spec =
@@ -42,7 +42,7 @@ frame-span-spec =
     enum-told-2
     beam-span-requires-2
     enum-told-3
-    strip-span-requires
+    xdr-radial-span-requires
     returns
     returns-2
     returns-3)

@@ -14,37 +14,37 @@ use Rattle.bytes.specs.Reading.{Flat, give, Ended, passed, halted, onward, walk
 use Rattle.bytes.proofs.Readings.{walk-then, Parts, parts, parts-by, passed-check, walk-give}
 use Rattle.xdr.proofs.Items.{array-count-end}
 use Rattle.xdr.specs.Xdr.{atLeast0}
-use Rattle.symbology.specs.Symbology.{Strip, xdrFrame}
-use Rattle.symbology.specs.Walk.{expectedOf, stripThen, stripSpan, placed}
+use Rattle.symbology.specs.Symbology.{XdrRadial, xdrFrame}
+use Rattle.symbology.specs.Walk.{expectedOf, xdrRadialThen, xdrRadialSpan, placed}
 use Rattle.xdr.specs.declared.xdr.Step.{Step}
 use Rattle.xdr.specs.declared.xdr.Step.the-variants as Step
 use Rattle.xdr.specs.Answers.{stepOf}
 
--- a step with its strip
-pub strip-then : (azimuth : Float) (bins : ℕ) (st : Step) → stripThen azimuth bins st ≡ onward (stepOf st) (λ _ p. passed (record { azimuth = azimuth; bins = bins }) p)
-strip-then azimuth bins (Step.At p) = refl
-strip-then azimuth bins (Step.Refused e p) = refl
+-- a step with its radial
+pub xdr-radial-then : (centre : Float) (bins : ℕ) (st : Step) → xdrRadialThen centre bins st ≡ onward (stepOf st) (λ _ p. passed (record { centre = centre; bins = bins }) p)
+xdr-radial-then centre bins (Step.At p) = refl
+xdr-radial-then centre bins (Step.Refused e p) = refl
 
 first-cells : (r cells : ℕ) → r ≡ 0 → (eqb r 0 && ltb 4000000 cells) ≡ false → cells ≤ 4000000
 first-cells zero cells h k = ltb-false _ _ k
 first-cells (suc r) cells h k = absurd (omega (arith, h))
 
 -- What a frame that passed shows: its bins are those expected, and its data are there.
-pub record Framed (radials r : ℕ) (expected : ℕ → ℕ) (s : List ℕ) (strip : Strip) (q : ℕ) : Type 0 where
-  pub bins-are : strip .bins ≡ expected (strip .bins)
-  pub room : strip .bins * 4 ≤ length s - q
+pub record Framed (radials r : ℕ) (expected : ℕ → ℕ) (s : List ℕ) (xdr : XdrRadial) (q : ℕ) : Type 0 where
+  pub bins-are : xdr .bins ≡ expected (xdr .bins)
+  pub room : xdr .bins * 4 ≤ length s - q
   pub inside : q ≤ length s
-  pub cells : r ≡ 0 → radials * strip .bins ≤ 4000000
+  pub cells : r ≡ 0 → radials * xdr .bins ≤ 4000000
 
 -- the parts of a reading that passed, by name
 opened : {A B : Type 0} {f : A → Flat B} {t : Flat A} {s : List ℕ} {p : ℕ} {b : B} {q : ℕ} {C : Type 0} → Parts f t s p b q
     → ((a : A) (m : ℕ) → passed a m ≡ walk t s p → passed b q ≡ walk (f a) s m → C) → C
 opened h k = k (h .value) (h .middle) (h .first) (h .second)
 
-pub framed : (radials r : ℕ) (expected : ℕ → ℕ) (s : List ℕ) (p : ℕ) (strip : Strip) (q : ℕ) → passed strip q ≡ walk (xdrFrame radials r expected) s p
-    → Framed radials r expected s strip q
+pub framed : (radials r : ℕ) (expected : ℕ → ℕ) (s : List ℕ) (p : ℕ) (xdr : XdrRadial) (q : ℕ) → passed xdr q ≡ walk (xdrFrame radials r expected) s p
+    → Framed radials r expected s xdr q
 unfolding xdrFrame
-framed radials r expected s p strip q e =
+framed radials r expected s p xdr q e =
     opened (parts _ _ s p e) (λ azimuth m₁ _ e₁.
     opened (parts-by _ _ s m₁ e₁) (λ _ m₂ _ e₂.
     opened (parts _ _ s m₂ e₂) (λ width m₃ _ e₃.
@@ -58,28 +58,28 @@ framed radials r expected s p strip q e =
     let h₄ = passed-check _ _ _ s m (h₃ .1) in
     last n (atLeast0 bins) (eqb-true _ _ (not-false _ (h₂ .0))) (eqb-true _ _ (not-false _ (h₃ .0))) (k .1) (k .2) (λ h. first-cells r (radials * atLeast0 bins) h (h₄ .0)) (h₄ .1 ∙ walk-give _ s m)))))))
   where
-    last : (n bins : ℕ) {m : ℕ} {azimuth : Float} → bins ≡ expected bins → n ≡ bins → n * 4 ≤ length s - m → m ≤ length s → (r ≡ 0 → radials * bins ≤ 4000000)
-        → passed strip q ≡ passed (record { azimuth = azimuth; bins = bins }) m → Framed radials r expected s strip q
-    last n bins {m} {azimuth} x h k l y e =
+    last : (n bins : ℕ) {m : ℕ} {centre : Float} → bins ≡ expected bins → n ≡ bins → n * 4 ≤ length s - m → m ≤ length s → (r ≡ 0 → radials * bins ≤ 4000000)
+        → passed xdr q ≡ passed (record { centre = centre; bins = bins }) m → Framed radials r expected s xdr q
+    last n bins {m} {centre} x h k l y e =
         let a : q ≡ m = cc in
-        let b : strip ≡ record { azimuth = azimuth; bins = bins } = cc in
-        let c : strip .bins ≡ bins = ap (λ x. x .bins) b in
+        let b : xdr ≡ record { centre = centre; bins = bins } = cc in
+        let c : xdr .bins ≡ bins = ap (λ x. x .bins) b in
         let d : bins ≡ n = sym h in
         rw (b, a) (record { bins-are = x; room = rw d k; inside = l; cells = y })
 
 -- ---- the place of its data
 
 module _ (radials r bins : ℕ) (s : List ℕ) (p : ℕ) where
-  span-is : (e : Ended Strip) → e ≡ walk (xdrFrame radials r (expectedOf false bins)) s p
-      → placed (onward e (λ strip q. passed (record { azimuth = strip .azimuth; size = strip .bins * 4 }) q)) ≡ placed (walk (stripSpan radials bins r) s p)
-  unfolding stripSpan walk
+  span-is : (e : Ended XdrRadial) → e ≡ walk (xdrFrame radials r (expectedOf false bins)) s p
+      → placed (onward e (λ xdr q. passed (record { centre = xdr .centre; size = xdr .bins * 4 }) q)) ≡ placed (walk (xdrRadialSpan radials bins r) s p)
+  unfolding xdrRadialSpan walk
   span-is e h =
-      ap (λ x. placed (onward x (λ strip q. passed (record { azimuth = strip .azimuth; size = strip .bins * 4 }) q))) h
-      ∙ ap placed (sym (walk-then (λ strip. give (record { azimuth = strip .azimuth; size = strip .bins * 4 })) (xdrFrame radials r (expectedOf false bins)) s p))
+      ap (λ x. placed (onward x (λ xdr q. passed (record { centre = xdr .centre; size = xdr .bins * 4 }) q))) h
+      ∙ ap placed (sym (walk-then (λ xdr. give (record { centre = xdr .centre; size = xdr .bins * 4 })) (xdrFrame radials r (expectedOf false bins)) s p))
 
-  pub span-whole : {a : Float} {n q : ℕ} → passed (record { azimuth = a; bins = n }) q ≡ walk (xdrFrame radials r (expectedOf false bins)) s p
-      → accepted (record { azimuth = a; from = q; to = q + n * 4 }) ≡ placed (walk (stripSpan radials bins r) s p)
+  pub span-whole : {a : Float} {n q : ℕ} → passed (record { centre = a; bins = n }) q ≡ walk (xdrFrame radials r (expectedOf false bins)) s p
+      → accepted (record { centre = a; from = q; to = q + n * 4 }) ≡ placed (walk (xdrRadialSpan radials bins r) s p)
   span-whole e = span-is _ e
 
-  pub span-halted : {x : Refusal} {q : ℕ} → halted x q ≡ walk (xdrFrame radials r (expectedOf false bins)) s p → refused x ≡ placed (walk (stripSpan radials bins r) s p)
+  pub span-halted : {x : Refusal} {q : ℕ} → halted x q ≡ walk (xdrFrame radials r (expectedOf false bins)) s p → refused x ≡ placed (walk (xdrRadialSpan radials bins r) s p)
   span-halted e = span-is _ e

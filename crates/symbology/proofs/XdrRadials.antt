@@ -13,9 +13,9 @@ use Rattle.bytes.specs.Reading.{Flat, give, _>>=_, after-row, run, Given, Ended
 use Rattle.bytes.proofs.Readings.{walk-give, then-passed, then-halted, passed-check}
 use Rattle.bytes.proofs.Runs.{then-then, run-then, prepend, and-then, same-first, same-first-by, past-check, same-last, row-passed, row-halted}
 use Rattle.symbology.specs.Rows.{rowOf}
-use Rattle.symbology.specs.Symbology.{Sweep, Strip, xdrFrame, xdrRadial, xdrWalk, xdrRadials}
-use Rattle.symbology.specs.Walk.{expectedOf, stripSpan, anyFrame, anyRadial, anyWalk, sweepFrom}
-use Rattle.symbology.proofs.Strips.{framed}
+use Rattle.symbology.specs.Symbology.{Sweep, XdrRadial, xdrFrame, xdrRadial, xdrWalk, xdrRadials}
+use Rattle.symbology.specs.Walk.{expectedOf, xdrRadialSpan, anyFrame, anyRadial, anyWalk, sweepFrom}
+use Rattle.symbology.proofs.XdrFrames.{framed}
 use Rattle.symbology.proofs.Writing.{plain-xdr-frame, plain-frame}
 use Rattle.symbology.specs.declared.figures.Figures.{Figures}
 use Rattle.symbology.specs.declared.figures.Packet.the-variants.{Packet28}
@@ -25,25 +25,25 @@ use Rattle.symbology.specs.declared.figures.Geometry.the-variants.{Gates
 
 module _ (radials bins r : ℕ) (s : List ℕ) (p : ℕ) where
   -- the frame as the one walk has it
-  span-passed : {strip : Strip} {q : ℕ} → passed strip q ≡ walk (xdrFrame radials r (expectedOf false bins)) s p
-      → passed (record { azimuth = strip .azimuth; size = strip .bins * 4 }) q ≡ walk (anyFrame Packet28 radials bins r) s p
-  unfolding anyFrame stripSpan
+  span-passed : {xdr : XdrRadial} {q : ℕ} → passed xdr q ≡ walk (xdrFrame radials r (expectedOf false bins)) s p
+      → passed (record { centre = xdr .centre; size = xdr .bins * 4 }) q ≡ walk (anyFrame Packet28 radials bins r) s p
+  unfolding anyFrame xdrRadialSpan
   span-passed e = sym (then-passed _ (xdrFrame radials r (expectedOf false bins)) s p e ∙ walk-give _ s _)
 
-  module _ {B : Type 0} (e : ℕ → ℕ) (f : Strip → Flat B) (g : Float → Flat B) where
-    radial-passed : {strip : Strip} {q : ℕ} → passed strip q ≡ walk (xdrFrame radials r e) s p → passed strip q ≡ walk (xdrFrame radials r (expectedOf false bins)) s p
-        → strip .bins ≡ bins → ((m : ℕ) → run (f strip) s m ≡ run (g (strip .azimuth)) s m)
+  module _ {B : Type 0} (e : ℕ → ℕ) (f : XdrRadial → Flat B) (g : Float → Flat B) where
+    radial-passed : {xdr : XdrRadial} {q : ℕ} → passed xdr q ≡ walk (xdrFrame radials r e) s p → passed xdr q ≡ walk (xdrFrame radials r (expectedOf false bins)) s p
+        → xdr .bins ≡ bins → ((m : ℕ) → run (f xdr) s m ≡ run (g (xdr .centre)) s m)
         → run (xdrRadial radials r e >>= f) s p ≡ run (anyRadial Packet28 radials bins r >>= g) s p
     unfolding xdrRadial anyRadial
-    radial-passed {strip} {q} h k b l =
+    radial-passed {xdr} {q} h k b l =
         row-passed _ _ (λ x. x) f (xdrFrame radials r e) (plain-xdr-frame radials r e) s p h
-        ∙ ap₂ (λ n y. after-row (rowOf Packet28 n r (slice q (q + strip .bins * 4) s)) y) b (l (q + strip .bins * 4))
+        ∙ ap₂ (λ n y. after-row (rowOf Packet28 n r (slice q (q + xdr .bins * 4) s)) y) b (l (q + xdr .bins * 4))
         ∙ sym (row-passed (λ x. x .size) _ _ g (anyFrame Packet28 radials bins r) (plain-frame Packet28 radials bins r) s p (span-passed k))
 
-  module _ {B : Type 0} (f : Strip → Flat B) (g : Float → Flat B) where
+  module _ {B : Type 0} (f : XdrRadial → Flat B) (g : Float → Flat B) where
     radial-halted : {x : Refusal} {q : ℕ} → halted x q ≡ walk (xdrFrame radials r (expectedOf false bins)) s p
         → run (xdrRadial radials r (expectedOf false bins) >>= f) s p ≡ run (anyRadial Packet28 radials bins r >>= g) s p
-    unfolding xdrRadial anyRadial anyFrame stripSpan
+    unfolding xdrRadial anyRadial anyFrame xdrRadialSpan
     radial-halted h =
         sym (row-halted _ _ (λ x. x) f (xdrFrame radials r (expectedOf false bins)) (plain-xdr-frame radials r _) s p h)
         ∙ row-halted (λ x. x .size) _ _ g (anyFrame Packet28 radials bins r) (plain-frame Packet28 radials bins r) s p
@@ -56,20 +56,20 @@ unfolding xdrWalk anyWalk expectedOf
 further radials bins s zero r p = refl
 further radials bins s (suc n) r p = go (further radials bins s n (suc r)) (walk (xdrFrame radials r (expectedOf false bins)) s p) refl
   where
-    go : ((m : ℕ) → run (xdrWalk radials bins n (suc r)) s m ≡ run (anyWalk Packet28 radials bins n (suc r)) s m) → (w : Ended Strip)
+    go : ((m : ℕ) → run (xdrWalk radials bins n (suc r)) s m ≡ run (anyWalk Packet28 radials bins n (suc r)) s m) → (w : Ended XdrRadial)
         → walk (xdrFrame radials r (expectedOf false bins)) s p ≡ w → run (xdrWalk radials bins (suc n) r) s p ≡ run (anyWalk Packet28 radials bins (suc n) r) s p
-    go rest-is (passed strip q) h =
-        radial-passed radials bins r s p (expectedOf false bins) _ _ (sym h) (sym h) (framed radials r (expectedOf false bins) s p strip q (sym h) .bins-are)
-        (λ m. same-last (λ rest. give (strip .azimuth ∷ rest)) (xdrWalk radials bins n (suc r)) (anyWalk Packet28 radials bins n (suc r)) s m (rest-is m))
+    go rest-is (passed xdr q) h =
+        radial-passed radials bins r s p (expectedOf false bins) _ _ (sym h) (sym h) (framed radials r (expectedOf false bins) s p xdr q (sym h) .bins-are)
+        (λ m. same-last (λ rest. give (xdr .centre ∷ rest)) (xdrWalk radials bins n (suc r)) (anyWalk Packet28 radials bins n (suc r)) s m (rest-is m))
     go rest-is (halted x q) h = radial-halted radials bins r s p _ _ (sym h)
 
 -- ---- the first radial
 
 -- its bins are its own: the frame passes as one of that many bins
-own-bins : (radials : ℕ) (s : List ℕ) (p : ℕ) {strip : Strip} {q : ℕ} → passed strip q ≡ walk (xdrFrame radials 0 (expectedOf true 0)) s p
-    → passed strip q ≡ walk (xdrFrame radials 0 (expectedOf false (strip .bins))) s p
+own-bins : (radials : ℕ) (s : List ℕ) (p : ℕ) {xdr : XdrRadial} {q : ℕ} → passed xdr q ≡ walk (xdrFrame radials 0 (expectedOf true 0)) s p
+    → passed xdr q ≡ walk (xdrFrame radials 0 (expectedOf false (xdr .bins))) s p
 unfolding xdrFrame expectedOf
-own-bins radials s p {strip} {q} =
+own-bins radials s p {xdr} {q} =
     same-first _ _ _ s p λ _ m. same-first-by _ _ _ s m λ m. same-first _ _ _ s m λ _ m. same-first _ _ _ s m λ _ m.
     same-first-by _ _ _ s m λ m. same-first _ _ _ s m λ _ m. same-first-by _ _ _ s m λ m h.
     let h₁ = passed-check _ _ _ s m h in
@@ -77,8 +77,8 @@ own-bins radials s p {strip} {q} =
     let h₃ = passed-check _ _ _ s m (h₂ .1) in
     past-check _ _ _ s m (ap not (eq-eqb _ _ (last (h₃ .1 ∙ walk-give _ s m)))) (h₁ .1)
   where
-    last : {azimuth : Float} {bins m : ℕ} → passed strip q ≡ passed (record { azimuth = azimuth; bins = bins }) m → bins ≡ strip .bins
-    last {azimuth} {bins} e = let a : strip ≡ record { azimuth = azimuth; bins = bins } = cc in sym (ap (λ x. x .bins) a)
+    last : {centre : Float} {bins m : ℕ} → passed xdr q ≡ passed (record { centre = centre; bins = bins }) m → bins ≡ xdr .bins
+    last {centre} {bins} e = let a : xdr ≡ record { centre = centre; bins = bins } = cc in sym (ap (λ x. x .bins) a)
 
 -- ---- the sweep
 
@@ -98,30 +98,30 @@ module _ (radials : ℕ) (gateWidth firstGate : Float) (s : List ℕ) (p : ℕ) 
   radials-refused e = row-halted _ _ (λ x. x) _ (xdrFrame radials 0 (expectedOf true 0)) (plain-xdr-frame radials 0 _) s p e
 
   -- the first frame passes: the sweep is the one walk's
-  pub radials-are : {strip : Strip} {q : ℕ} → 0 < radials → passed strip q ≡ walk (xdrFrame radials 0 (expectedOf true 0)) s p
+  pub radials-are : {xdr : XdrRadial} {q : ℕ} → 0 < radials → passed xdr q ≡ walk (xdrFrame radials 0 (expectedOf true 0)) s p
       → run (xdrRadials radials gateWidth firstGate) s p
-      ≡ sweepFrom (record { packet = Packet28; «n_radials» = radials; «n_bins» = strip .bins; geometry = Gates gateWidth firstGate }) (run (anyWalk Packet28 radials (strip .bins) radials 0) s p)
+      ≡ sweepFrom (record { packet = Packet28; «n_radials» = radials; «n_bins» = xdr .bins; geometry = Gates gateWidth firstGate }) (run (anyWalk Packet28 radials (xdr .bins) radials 0) s p)
   unfolding xdrRadials anyWalk expectedOf _>>=_
-  radials-are {strip} h e =
+  radials-are {xdr} h e =
       let n : radials ≡ suc (radials - 1) = omega (arith, h) in
-      radial-passed radials (strip .bins) 0 s p (expectedOf true 0) _ _ e (own-bins radials s p e) refl after-first
-      ∙ ap (λ t. run t s p) (sym (then-then _ sweep (anyRadial Packet28 radials (strip .bins) 0)))
-      ∙ sweep-run ⊥ figures (anyWalk Packet28 radials (strip .bins) (suc (radials - 1)) 0) s p
-      ∙ ap (λ k. sweepFrom figures (run (anyWalk Packet28 radials (strip .bins) k 0) s p)) (sym n)
+      radial-passed radials (xdr .bins) 0 s p (expectedOf true 0) _ _ e (own-bins radials s p e) refl after-first
+      ∙ ap (λ t. run t s p) (sym (then-then _ sweep (anyRadial Packet28 radials (xdr .bins) 0)))
+      ∙ sweep-run ⊥ figures (anyWalk Packet28 radials (xdr .bins) (suc (radials - 1)) 0) s p
+      ∙ ap (λ k. sweepFrom figures (run (anyWalk Packet28 radials (xdr .bins) k 0) s p)) (sym n)
     where
       figures : Figures
-      figures = record { packet = Packet28; «n_radials» = radials; «n_bins» = strip .bins; geometry = Gates gateWidth firstGate }
+      figures = record { packet = Packet28; «n_radials» = radials; «n_bins» = xdr .bins; geometry = Gates gateWidth firstGate }
 
       sweep : List Float → Flat Sweep
       sweep azimuths = give (record { figures = figures; azimuths = azimuths })
 
       others : Flat (List Float)
-      others = anyWalk Packet28 radials (strip .bins) (radials - 1) 1
+      others = anyWalk Packet28 radials (xdr .bins) (radials - 1) 1
 
       add : List Float → Flat (List Float)
-      add rest = give (strip .azimuth ∷ rest)
+      add rest = give (xdr .centre ∷ rest)
 
-      after-first : (m : ℕ) → run (xdrWalk radials (strip .bins) (radials - 1) 1 >>= λ rest. sweep (strip .azimuth ∷ rest)) s m ≡ run (others >>= add >>= sweep) s m
+      after-first : (m : ℕ) → run (xdrWalk radials (xdr .bins) (radials - 1) 1 >>= λ rest. sweep (xdr .centre ∷ rest)) s m ≡ run (others >>= add >>= sweep) s m
       after-first m =
-          same-last _ (xdrWalk radials (strip .bins) (radials - 1) 1) others s m (further radials (strip .bins) s (radials - 1) 1 m)
+          same-last _ (xdrWalk radials (xdr .bins) (radials - 1) 1) others s m (further radials (xdr .bins) s (radials - 1) 1 m)
           ∙ ap (λ t. run t s m) (sym (then-then add sweep others))

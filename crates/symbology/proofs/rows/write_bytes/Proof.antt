@@ -5,8 +5,8 @@ use mathlib.Core.Path.{sym, _∙_}
 use lib.Seq.{length-take-le, getD-take}
 use lib.ListN.{length, take}
 use Rattle.symbology.proofs.Stores.{Stored, stored-first, stored-turn, stored-end}
-use Rattle.symbology.proofs.rows.bytes_write.Statement.{statement}
-use Rattle.symbology.proofs.rows.bytes_write.Tie as tie
+use Rattle.symbology.proofs.rows.write_bytes.Statement.{statement}
+use Rattle.symbology.proofs.rows.write_bytes.Tie as tie
 
 abbrev Inv-loop : tie.InvT-loop
 Inv-loop src row₀ i₀ row i = Stored (length row₀) (take (length row₀) src) row i
@@ -44,8 +44,8 @@ same-length c = search needs
 returns : tie.Need-returns Inv-loop μ-loop
 returns c = stored-end (c .before .loop .inv) (omega arith)
 
-pub bytes-write-spec : {M : Type 1} → statement M
-bytes-write-spec =
+pub write-bytes-spec : {M : Type 1} → statement M
+write-bytes-spec =
     tie.close
     (tie.spec
     Inv-loop

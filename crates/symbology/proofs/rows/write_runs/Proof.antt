@@ -3,8 +3,8 @@ use borrow.Author.Needs.{needs}
 use Prim.Native.Nat.{_-_}
 use lib.ListN.{length}
 use Rattle.symbology.proofs.Paint.{Painted, painted-first, painted-end, painted-over, painted-turn}
-use Rattle.symbology.proofs.rows.rle_write.Statement.{statement}
-use Rattle.symbology.proofs.rows.rle_write.Tie as tie
+use Rattle.symbology.proofs.rows.write_runs.Statement.{statement}
+use Rattle.symbology.proofs.rows.write_runs.Tie as tie
 
 abbrev Inv-loop : tie.InvT-loop
 Inv-loop runs row₀ gate₀ i₀ row gate i = Painted runs row₀ row i gate
@@ -58,7 +58,7 @@ loop-less : tie.Need-loop-less Inv-loop μ-loop
 loop-less c = search needs
 
 loop-again : tie.Need-loop-again Inv-loop μ-loop
-loop-again c = painted-turn (c .before .before .before .before .before .before .before .before .before .before .pre) (c .before .before .before .before .before .before .before .loop .inv) (omega arith) (c .before .before .before .before .before .byte .ensures .0) _ (c .before .before .before .before .if1 .left) (search needs) (c .before .before .spread .ensures)
+loop-again c = painted-turn (c .before .before .before .before .before .before .before .before .before .before .pre) (c .before .before .before .before .before .before .before .loop .inv) (omega arith) (c .before .before .before .before .before .byte .ensures .0) _ (search needs) (c .before .before .before .before .if1 .left) (search needs) (c .before .before .spread .ensures)
 
 same-length-2 : tie.Need-same-length-2 Inv-loop μ-loop
 same-length-2 c = search needs
@@ -66,8 +66,8 @@ same-length-2 c = search needs
 returns-2 : tie.Need-returns-2 Inv-loop μ-loop
 returns-2 c = painted-end (c .before .before .before .before .pre) (c .before .loop .inv) (omega arith)
 
-pub rle-write-spec : {M : Type 1} → statement M
-rle-write-spec =
+pub write-runs-spec : {M : Type 1} → statement M
+write-runs-spec =
     tie.close
     (tie.spec
     Inv-loop

@@ -5,20 +5,18 @@ use mathlib.Core.List.{List, [], _∷_}
 use mathlib.Core.Bool.{Bool, true, false, cond}
 use mathlib.Core.Path.{_≡_, refl, sym, ap, _∙_}
 use lib.ListN.{length, take}
-use lib.IntN.{ℤ, pos, negsuc}
-use lib.Signed.{leZ}
 use lib.Ieee.{Float}
 use lib.Dec.{eqb}
-use borrow.Author.Tests.{leb-false}
 use Rattle.bytes.specs.Bytes.{signed}
 use Rattle.bytes.specs.Refusal.{Refusal, kind, whole}
 use Rattle.bytes.specs.Result.{Result, accepted, refused}
 use Rattle.bytes.specs.Reading.{Read, Flat, give, stop, within, Given, run, _>>=_, _>>_, refuse-if}
 use Rattle.bytes.proofs.Runs.{and-then, prepend, run-then}
-use Rattle.xdr.specs.Xdr.{atLeast0, further, elements, counted}
+use Rattle.xdr.specs.Xdr.{further, elements, counted}
 use Rattle.symbology.specs.declared.figures.Packet.{Packet}
 use Rattle.symbology.specs.declared.figures.Packet.the-variants.{Packet16, PacketAf1f}
-use Rattle.symbology.specs.Symbology.{Sweep, radialWalk, radialPacket, xdrWalk, xdrRadials, radialComponent, component, only, payload, genericPacket, packetOf, symbology}
+use Rattle.symbology.specs.Symbology.{Sweep, radialWalk, radialPacket, xdrWalk, xdrRadials, componentHead, component, only, payload, genericPacket, packetOf, symbology}
+use Rattle.symbology.proofs.Payload.{counted-small}
 
 -- whatever the bytes are, a value that the reading gives has P
 record Gives {W A : Type 0} (t : Read W A) (P : A → Type 0) : Type 0 where
@@ -91,16 +89,13 @@ xdr-long radials bins zero r = gives _ refl
 xdr-long radials bins (suc n) r = gives-on _ λ a. gives-then (xdr-long radials bins n (suc r)) λ l h. gives _ (ap suc h)
 
 -- where the number of radials is above 0, the first is one of them
-radials-centred : (n : ℤ) (gateWidth firstGate : Float) → leZ n (pos 0) ≡ false → Gives (xdrRadials (atLeast0 n) gateWidth firstGate) Centred
+radials-centred : (n : ℕ) (gateWidth firstGate : Float) → 0 < n → Gives (xdrRadials n gateWidth firstGate) Centred
 unfolding xdrRadials
-radials-centred (negsuc n) gateWidth firstGate h = absurd (let z : _≡_ {A = ℕ} 0 1 = cc in omega arith)
-radials-centred (pos n) gateWidth firstGate h =
-    let z : 0 < n = leb-false n 0 h in
-    gives-on _ λ first. gives-then (xdr-long n (first .bins) (n - 1) 1) λ l e. gives _ (omega arith)
+radials-centred n gateWidth firstGate some = gives-on _ λ first. gives-then (xdr-long n (first .bins) (n - 1) 1) λ l e. gives _ (omega arith)
 
-component-centred : Gives component Centred
-unfolding component radialComponent
-component-centred =
+head-some : Gives componentHead (λ h. 0 < h .radials)
+unfolding componentHead
+head-some =
     gives-on _ λ type.
     gives-past _ λ _.
     gives-past _ λ _.
@@ -109,8 +104,12 @@ component-centred =
     gives-past _ λ _.
     gives-on _ λ radials.
     gives-test _ _ λ h29.
-    gives-past _ λ _.
-    radials-centred radials gateWidth firstGate h29
+    gives-test _ _ λ h30.
+    gives _ (counted-small radials h29 h30 .0)
+
+component-centred : Gives component Centred
+unfolding component
+component-centred = gives-then head-some λ h some. radials-centred (h .radials) (h .gateWidth) (h .firstGate) some
 
 -- every element of a list has P
 abbrev Each : {A : Type 0} → (A → Type 0) → List A → Type 0
