@@ -105,7 +105,7 @@ headReadOf (HeadRead.Refused e) = refused (refusalOf e)
 
 -- ---- what the code asks of a body
 
--- what the declared scale's check says of the step: only halfword and float have one that can be refused (9)
+-- the declared scale's check as a test of the step: it refuses halfword and float alone, and them for their step (9)
 abbrev pub stepCheck : Scaling → DeclaredScaleRead → StepCheck
 stepCheck scaling (DeclaredScaleRead.Value d) = StepCheck.Passed
 stepCheck (Scaling.Linear s) (DeclaredScaleRead.Refused e) = StepCheck.NotPositive (s .«value_increment»)

@@ -87,7 +87,7 @@ pub fn is_allowed(scheme: Scheme, packet: Packet) -> bool
     }
 }
 
-// What the declared scale's check says of the step, of which halfword and float have one.
+// The declared scale's check as a test of the step: it refuses halfword and float alone, and them for their step (9).
 fn step_check(scaling: Scaling, declared: DeclaredScaleRead) -> StepCheck
     ensures { λ r. ⌜ r ≡ stepCheck scaling declared ⌝ }
 {

@@ -12,7 +12,7 @@ ghost use Rattle.bytes.specs.Reading.{walk, outcome};
 ghost use Rattle.symbology.specs.Symbology.{covered, countWrong, isEmpty, overBody, packetHeader};
 ghost use Rattle.symbology.specs.Walk.{beamSpan, placeOf, placed, headerOf, firstOf};
 
-// Of all packets.
+// The most cells that a picture may have, of any packet.
 pub const MAX_GATE_COUNT: usize = 4000000;
 
 pub struct PacketHeader {
