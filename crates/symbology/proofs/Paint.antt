@@ -69,13 +69,13 @@ module _ {runs row₀ row : List ℕ} {i gate : ℕ} (full : reach (length row�
     pub painted-over : length row - gate < runOf b → row ≡ take (length row₀) (cells runs)
     painted-over h = stop (reached-over (inv .reached) inside is (rw (inv .long) at h))
 
-    pub painted-turn : (ys : List ℕ) → runOf b ≤ 16 → runOf b ≤ length row - gate → length ys ≡ length row - gate
-        → ys ≡ replicate (min 16 (length (take (length row - gate) (drop gate row)))) (colourOf b) ++ drop 16 (take (length row - gate) (drop gate row))
+    pub painted-turn : (ys : List ℕ) {v : ℕ} → runOf b ≤ 16 → runOf b ≤ length row - gate → length ys ≡ length row - gate → v ≡ colourOf b
+        → ys ≡ replicate (min 16 (length (take (length row - gate) (drop gate row)))) v ++ drop 16 (take (length row - gate) (drop gate row))
         → Painted runs row₀ (putMid gate (length row - gate) row ys) (i + 1) (gate + runOf b)
-    painted-turn ys few h long whole =
+    painted-turn ys {v} few h long colour whole =
         let size : length (take (length row - gate) (drop gate row)) ≡ length row - gate = simp (length-take, length-drop) (omega arith) in
         let run : take (runOf b) ys ≡ replicate (runOf b) (colourOf b) =
-        spread-front (runOf b) (colourOf b) (take (length row - gate) (drop gate row)) few (rw size h) whole in
+        spread-front (runOf b) v (take (length row - gate) (drop gate row)) few (rw size h) whole ∙ ap (replicate (runOf b)) colour in
         let k : length row₀ - gate ≡ runOf b + (length row₀ - (gate + runOf b)) = omega (arith, inv .long) in
         let within : gate ≤ length row = omega (arith, inv .reached .within, inv .long) in
         let front : take (gate + runOf b) (putMid gate (length row - gate) row ys) ≡ take gate row ++ replicate (runOf b) (colourOf b) =

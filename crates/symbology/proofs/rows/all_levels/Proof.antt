@@ -30,7 +30,7 @@ loop-less : tie.Need-loop-less Inv-loop μ-loop
 loop-less c = search needs
 
 loop-again : tie.Need-loop-again Inv-loop μ-loop
-loop-again c = ?
+loop-again c = tested-turn (c .before .before .loop .inv) (c .before .loop-test .taken) (low-first _ _ (λ i. omega (arith, c .before .before .before .shared-slice-known .given i)) (c .low-first .ensures)) (both-clear (c .before .before .loop .bits) (c .low-first .result))
 
 returns : tie.Need-returns Inv-loop μ-loop
 returns c = tested-end (c .before .loop .inv) (omega arith)

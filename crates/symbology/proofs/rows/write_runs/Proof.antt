@@ -42,8 +42,8 @@ part-spread-start c = search needs
 part-spread-end : tie.Need-part-spread-end Inv-loop μ-loop
 part-spread-end c = search needs
 
-cast-spread : tie.Need-cast-spread Inv-loop μ-loop
-cast-spread c = search needs
+colour-of-requires : tie.Need-colour-of-requires Inv-loop μ-loop
+colour-of-requires c κs = search needs
 
 spread-requires : tie.Need-spread-requires Inv-loop μ-loop
 spread-requires c κs = search needs
@@ -58,7 +58,7 @@ loop-less : tie.Need-loop-less Inv-loop μ-loop
 loop-less c = search needs
 
 loop-again : tie.Need-loop-again Inv-loop μ-loop
-loop-again c = painted-turn (c .before .before .before .before .before .before .before .before .before .before .pre) (c .before .before .before .before .before .before .before .loop .inv) (omega arith) (c .before .before .before .before .before .byte .ensures .0) _ (search needs) (c .before .before .before .before .if1 .left) (search needs) (c .before .before .spread .ensures)
+loop-again c = painted-turn (c .before .before .before .before .before .before .before .before .before .before .before .pre) (c .before .before .before .before .before .before .before .before .loop .inv) (omega arith) (c .before .before .before .before .before .before .byte .ensures .0) _ (search needs) (c .before .before .before .before .before .if1 .left) (search needs) (c .before .before .before .colour-of .ensures) (c .before .before .spread .ensures)
 
 same-length-2 : tie.Need-same-length-2 Inv-loop μ-loop
 same-length-2 c = search needs
@@ -82,7 +82,7 @@ write-runs-spec =
     sub-spread
     part-spread-start
     part-spread-end
-    cast-spread
+    colour-of-requires
     spread-requires
     add-gate
     add-i
