@@ -87,6 +87,15 @@ uint32_t l3_threshold(const uint8_t *file, size_t file_len, size_t block, uint8_
 /* The sixteen legacy levels of 32 threshold bytes. thresholds_len must be 32, levels_len 16. Returns 0 or 101. */
 uint32_t l3_legacy16(const uint8_t *thresholds, size_t thresholds_len, float post_scale, float *levels, size_t levels_len);
 
+/* The physical values of codes, by the scale fields of the description block at place block. scheme and parameter as in l3_sweep.
+ * Refused are, in this order, the scale fields, with 3, 7 or 8 as in l3_linear, l3_float, l3_precip and l3_threshold (class has none), and
+ * with 36 a physical of fewer places than codes. Accepted, the first codes_len places of physical are written, and the rest left as it is;
+ * after a refusal physical is as it was. Any codes are taken (a legacy code above 15 is NaN), and no packet or step is
+ * looked at: 9 and 10 are of l3_sweep alone. */
+uint32_t l3_physical(const uint8_t *file, size_t file_len, size_t block, uint32_t scheme, float parameter,
+                     const uint16_t *codes, size_t codes_len, float *physical, size_t physical_len,
+                     int64_t *ints, size_t ints_len, double *floats, size_t floats_len);
+
 /* Whether bytes may stand after the body. */
 uint32_t l3_trailing(const uint8_t *bytes, size_t bytes_len, int64_t *ints, size_t ints_len, double *floats, size_t floats_len);
 

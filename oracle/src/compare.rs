@@ -4,7 +4,7 @@ use crate::make::{cases, Rng};
 use crate::model;
 use crate::port::{Entries, Outcome, Port};
 use crate::trap;
-use lines::{Answer, Case, Lent, Packet, Refusal, Scheme, NAMES};
+use lines::{Answer, Case, Lent, Packet, Refusal, Scheme, Sweep, NAMES};
 use std::collections::BTreeMap;
 
 mod fixed;
@@ -56,6 +56,9 @@ impl Compare {
         if let Answer::Picture(p) = &rust {
             self.short_symbology(case, p.radials, p.codes.len());
         }
+        if rust.same(&port) {
+            self.values(case, &rust);
+        }
         (rust, port)
     }
 
@@ -63,6 +66,7 @@ impl Compare {
     pub fn table(&mut self, case: &Case, answer: Answer) {
         self.counts.count(case, &answer);
         self.hold(case, &answer, Lent { azimuths: 0, codes: 0, physical: 0 });
+        self.values(case, &answer);
     }
 
     fn hold(&mut self, case: &Case, want: &Answer, lent: Lent) -> Answer {
@@ -93,6 +97,57 @@ impl Compare {
         self.counts.cases += 1;
         self.counts.count_refusal(36);
         self.hold(case, &want, Lent { azimuths, codes, physical: 0 });
+    }
+
+    /// The values alone: those of an accepted sweep, 36 where a place is missing, and before it what the scale fields refuse.
+    fn values(&mut self, case: &Case, answer: &Answer) {
+        let (file, block, scheme) = match case {
+            Case::Sweep { file, scheme, .. } => (file, None, *scheme),
+            Case::Lin { file, block } => (file, Some(*block), Scheme::Halfword),
+            Case::Flt { file, block } => (file, Some(*block), Scheme::Float),
+            Case::Prc { file, block, factor } => (file, Some(*block), Scheme::Precip(*factor)),
+            Case::Thr { file, block } => (file, Some(*block), Scheme::Legacy(1.0)),
+            _ => return,
+        };
+        match (answer, block) {
+            (Answer::Sweep(sweep), _) => {
+                let codes = &sweep.picture.codes;
+                let spare = (self.counts.cases % 4) as usize;
+                let block = trap::during(case, || self.port.block(file));
+                let short = Answer::Refused(Refusal::new(36, &[2]));
+                self.hold_values(case, answer, (file, block, scheme), codes, codes.len() + spare);
+                self.hold_values(case, &short, (file, block, scheme), codes, codes.len() - 1);
+            }
+            (Answer::Refused(_), Some(block)) => self.hold_values(case, answer, (file, block, scheme), &[0, 1, 2], 2),
+            _ => {}
+        }
+    }
+
+    fn hold_values(
+        &mut self,
+        case: &Case,
+        want: &Answer,
+        (file, block, scheme): (&[u8], usize, Scheme),
+        codes: &[u16],
+        lent: usize,
+    ) {
+        self.counts.cases += 1;
+        *self.counts.kinds.entry("values").or_default() += 1;
+        match want.refusal() {
+            Some(r) => self.counts.count_refusal(r.number),
+            None => self.counts.accepted += 1,
+        }
+        let given = trap::during(case, || self.port.values(file, block, scheme, codes, lent));
+        let fault = self.port.take_fault();
+        let port = match (given, want) {
+            (Ok(physical), Answer::Sweep(sweep)) => Answer::Sweep(Box::new(Sweep { physical, ..(**sweep).clone() })),
+            (Ok(_), _) => Answer::Accepted,
+            (Err(refusal), _) => Answer::Refused(refusal),
+        };
+        if !want.same(&port) || fault.is_some() {
+            let why = format!("the values alone in {lent} places {}", fault.unwrap_or_default());
+            self.differs(&why, case, &[("wanted", want), ("port", &port)]);
+        }
     }
 
     /// One XDR item read at a position: the Rust reads what is left from there on.

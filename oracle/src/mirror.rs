@@ -41,6 +41,8 @@ slips! {
     LevelCountOff,
     CeilingForgotten,
     LastRowOfMany,
+    FirstValueRepeated,
+    OneValueMore,
 }
 
 /// 1 + the slip's place in `SLIPS`, or 0.
@@ -70,6 +72,7 @@ pub fn entries() -> Entries {
         precip,
         threshold,
         legacy16,
+        physical,
         trailing,
         known,
         codes,
@@ -413,6 +416,54 @@ unsafe extern "C" fn legacy16(t: *const u8, n: usize, post_scale: f32, levels: *
         from_raw_parts_mut(levels, 16).copy_from_slice(&given);
     }
     0
+}
+
+/// The refusals are the Rust's. It has no function for the values alone: these are the model's.
+unsafe extern "C" fn physical(
+    f: *const u8,
+    n: usize,
+    block: usize,
+    scheme: u32,
+    parameter: f32,
+    codes: *const u16,
+    codes_len: usize,
+    physical: *mut f32,
+    physical_len: usize,
+    ints: *mut i64,
+    ints_len: usize,
+    floats: *mut f64,
+    floats_len: usize,
+) -> u32 {
+    let Some(mut report) = report(ints, ints_len, floats, floats_len) else { return SHORT_REPORT };
+    let Some(scheme) = Scheme::of(scheme as usize, parameter) else { return BAD_ARGUMENT };
+    let (file, codes) = (bytes(f, n), from_raw_parts(codes, codes_len));
+    let physical = from_raw_parts_mut(physical, physical_len);
+    if let Some(Answer::Refused(r)) = scale_fields(&file, block, scheme).map(|case| answer(&case)) {
+        return report.refuse(&r);
+    }
+    if physical.len() < codes.len() {
+        return report.refuse(&Refusal::new(36, &[2]));
+    }
+    let value = model::physical_values(&file, block, scheme);
+    for (to, code) in physical.iter_mut().zip(codes) {
+        *to = value(if slips(FirstValueRepeated) { codes[0] } else { *code });
+    }
+    if slips(OneValueMore) && physical.len() > codes.len() {
+        physical[codes.len()] = 0.0;
+    }
+    0
+}
+
+/// The reading of a scheme's scale fields; class has none.
+fn scale_fields(file: &[u8], block: usize, scheme: Scheme) -> Option<Case> {
+    let file = file.to_vec();
+    match scheme {
+        Scheme::Halfword => Some(Case::Lin { file, block }),
+        Scheme::Float => Some(Case::Flt { file, block }),
+        Scheme::Precip(factor) => Some(Case::Prc { file, block, factor }),
+        Scheme::Legacy(_) => Some(Case::Thr { file, block }),
+        Scheme::Class => None,
+    }
 }
 
 unsafe extern "C" fn trailing(

@@ -83,6 +83,10 @@ entries! {
     legacy16: l3_legacy16(
         thresholds: *const u8, thresholds_len: usize, post_scale: f32, levels: *mut f32, levels_len: usize,
     );
+    physical: l3_physical(
+        file: *const u8, file_len: usize, block: usize, scheme: u32, parameter: f32, codes: *const u16, codes_len: usize,
+        physical: *mut f32, physical_len: usize, ints: *mut i64, ints_len: usize, floats: *mut f64, floats_len: usize,
+    );
     trailing: l3_trailing(
         bytes: *const u8, bytes_len: usize, ints: *mut i64, ints_len: usize, floats: *mut f64, floats_len: usize,
     );
@@ -196,14 +200,7 @@ impl Port {
             Case::Sweep { clock, scheme, lent, file, body } => self.sweep(*clock, *scheme, *lent, file, body),
             Case::Sym { body } => self.symbology(body, lent),
             Case::Token { file } => self.token(file),
-            Case::Mhb { file } => {
-                let entry = self.entries.message_header;
-                self.small(
-                    file,
-                    |f, n, i, fl| unsafe { entry(f, n, i, INTS, fl, FLOATS) },
-                    |p| Answer::Number(p.ints[0].into()),
-                )
-            }
+            Case::Mhb { file } => self.message_header(file),
             Case::Time { clock, days, seconds } => {
                 let (entry, clock) = (self.entries.scan_time, u64_clock(*clock));
                 self.small(
@@ -267,7 +264,37 @@ impl Port {
         (Ok(item), position)
     }
 
-    /// The fault of the last `xdr_at`.
+    /// The place of the description block in a file that has one.
+    pub fn block(&mut self, file: &[u8]) -> usize {
+        let Answer::Number(header) = self.message_header(file) else {
+            self.found("no message header is found".into());
+            return 0;
+        };
+        header as usize + 18
+    }
+
+    /// The values of codes by the block at a place, for a buffer of `lent` places.
+    pub fn values(
+        &mut self,
+        file: &[u8],
+        block: usize,
+        scheme: Scheme,
+        codes: &[u16],
+        lent: usize,
+    ) -> Result<Vec<f32>, Refusal> {
+        self.lend(Lent { azimuths: 0, codes: 0, physical: lent });
+        let scheme = (scheme.index() as u32, scheme.parameter());
+        let refused = self.call_physical(file, block, scheme, codes, (INTS, FLOATS));
+        self.check_report();
+        let written = if refused == 0 { codes.len().min(lent) } else { 0 };
+        self.check_kept(0, 0, written);
+        if refused != 0 {
+            return Err(self.refusal(refused));
+        }
+        Ok(self.physical.memory[..written].iter().map(|b| f32::from_bits(*b)).collect())
+    }
+
+    /// The fault of the last `xdr_at` or `values`.
     pub fn take_fault(&mut self) -> Option<String> {
         self.fault.take()
     }
@@ -291,6 +318,9 @@ impl Port {
             self.lend(Lent { azimuths: 4, codes: 4, physical: 4 });
             let number = self.call_sweep(&[], 0, (scheme, 0.0), &[], (INTS, FLOATS));
             asked.push((format!("l3_sweep with scheme {scheme}"), number == BAD_ARGUMENT && self.buffers_untouched()));
+            let number = self.call_physical(&[], 0, (scheme, 0.0), &[1, 2], (INTS, FLOATS));
+            let untouched = self.report_untouched() && self.buffers_untouched();
+            asked.push((format!("l3_physical with scheme {scheme}"), number == BAD_ARGUMENT && untouched));
         }
         for (bytes, levels) in [(31, 16), (33, 16), (0, 16), (32, 15), (32, 17), (32, 0)] {
             let pointer = self.file.place(&vec![1; bytes]);
@@ -312,6 +342,7 @@ impl Port {
         self.lend(Lent { azimuths: 4, codes: 4, physical: 4 });
         let sweep = self.call_sweep(&[], 0, (4, 0.0), &[], (ints, floats));
         let symbology = self.call_symbology(&[], (ints, floats));
+        let physical = self.call_physical(&[], 0, (4, 0.0), &[1, 2], (ints, floats));
         let (i, f) = (self.ints.as_mut_ptr(), self.floats.as_mut_ptr());
         let bytes = self.file.place(b"N0BLOT");
         let mut data = [0u8; 32];
@@ -319,6 +350,7 @@ impl Port {
             vec![
                 ("l3_sweep", sweep),
                 ("l3_symbology", symbology),
+                ("l3_physical", physical),
                 ("l3_token", (e.token)(bytes, 6, i, ints, f, floats)),
                 ("l3_message_header", (e.message_header)(bytes, 6, i, ints, f, floats)),
                 ("l3_scan_time", (e.scan_time)(1, 0, 0, i, ints, f, floats)),
@@ -381,6 +413,11 @@ impl Port {
     fn token(&mut self, file: &[u8]) -> Answer {
         let entry = self.entries.token;
         self.small(file, |f, n, i, fl| unsafe { entry(f, n, i, INTS, fl, FLOATS) }, |p| Answer::Token(p.token_at(file)))
+    }
+
+    fn message_header(&mut self, file: &[u8]) -> Answer {
+        let entry = self.entries.message_header;
+        self.small(file, |f, n, i, fl| unsafe { entry(f, n, i, INTS, fl, FLOATS) }, |p| Answer::Number(p.ints[0].into()))
     }
 
     fn field(&mut self, file: &[u8], block: usize, index: usize, kind: FieldKind) -> Answer {
@@ -536,6 +573,36 @@ impl Port {
                 self.azimuths.lent,
                 self.codes.memory.as_mut_ptr(),
                 self.codes.lent,
+                self.ints.as_mut_ptr(),
+                report.0,
+                self.floats.as_mut_ptr(),
+                report.1,
+            )
+        }
+    }
+
+    /// The codes are an input: they end at the fence too.
+    fn call_physical(
+        &mut self,
+        file: &[u8],
+        block: usize,
+        scheme: (u32, f32),
+        codes: &[u16],
+        report: (usize, usize),
+    ) -> u32 {
+        let bytes: Vec<u8> = codes.iter().flat_map(|c| c.to_ne_bytes()).collect();
+        let (file_at, codes_at) = (self.file.place(file), self.body.place(&bytes));
+        unsafe {
+            (self.entries.physical)(
+                file_at,
+                file.len(),
+                block,
+                scheme.0,
+                scheme.1,
+                codes_at as *const u16,
+                codes.len(),
+                self.physical.memory.as_mut_ptr() as *mut f32,
+                self.physical.lent,
                 self.ints.as_mut_ptr(),
                 report.0,
                 self.floats.as_mut_ptr(),

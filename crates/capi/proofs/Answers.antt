@@ -8,13 +8,14 @@ use lib.ListN.{length, take, drop}
 use lib.Seq.{drop-length}
 use lib.Ieee.{Float}
 use borrow.Author.Tests.{eq-eqb, ne-eqb}
-use Rattle.bytes.specs.Result.{Result, accepted, refused, lent}
+use Rattle.bytes.specs.Result.{Result, accepted, refused, then, lent}
 use Rattle.bytes.specs.Reading.{Ended}
 use Rattle.bytes.specs.Products.{codes}
 use Rattle.scale.specs.Pdb.{thresholdPlace, thresholdBytes}
 use Rattle.scale.specs.Legacy.{levelsOf}
 use Rattle.capi.specs.declared.report.Report.{Report}
 use Rattle.capi.specs.Report.{reportOf, endedReport, Said, said, failed, choice, short, numberOf, intsAfter, floatsAfter, over, Leaves}
+use Rattle.capi.specs.Places.{noReport}
 use Rattle.capi.specs.Entries.{thresholdSaid, levelsSaid, codesSaid}
 
 -- an arm of a match on an answer: x turned out to be x'
@@ -24,6 +25,11 @@ module _ {X A : Type 0} (f : A → Report) where
 
   pub ended-arm : (of : X → Ended A) {r : Report} {x x' : X} → r ≡ endedReport (of x') f → x ≡ x' → r ≡ endedReport (of x) f
   ended-arm of p q = p ∙ ap (λ y. endedReport (of y) f) (sym q)
+
+-- a report without values is the same for any accepted value
+pub no-value : {A : Type 0} (r : Result A) → reportOf (then {B = Unit {0}} r λ _. accepted tt) noReport ≡ reportOf r noReport
+no-value (accepted a) = refl
+no-value (refused x) = refl
 
 -- a report is what is said
 pub by-report : {R R' : Report} {n : ℕ} {ints ints' : List ℕ} {floats floats' : List Float}

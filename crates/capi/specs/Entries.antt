@@ -11,6 +11,7 @@ use Rattle.bytes.specs.Products.{codes}
 use Rattle.head.specs.Pdb.{hwI16, hwU16, hwI32, hwPair}
 use Rattle.scale.specs.Pdb.{thresholdPlace}
 use Rattle.scale.specs.Legacy.{levelsOf}
+use Rattle.scale.specs.Physical.{fillOf}
 use Rattle.scale.specs.declared.physical.Scheme.{Scheme}
 use Rattle.scale.specs.declared.physical.Scheme.the-variants as Scheme
 use Rattle.sweep.specs.Sweep.{Accepted, sweepOf}
@@ -56,6 +57,10 @@ schemeSaid n x = choice n (Scheme.Halfword ∷ Scheme.Float ∷ Scheme.Precipita
 -- the sweep, for buffers of `na`, `nc` and `np` places
 abbrev pub sweepSaid : ℕ → Float → List ℕ → ℕ → List ℕ → ℕ → ℕ → ℕ → Said (Result Accepted)
 sweepSaid n x file clock body na nc np = saying (λ scheme. sweepOf scheme file clock body na nc np) (schemeSaid n x)
+
+-- the values of the codes, for a buffer of `np` places
+abbrev pub physicalSaid : ℕ → Float → List ℕ → ℕ → List ℕ → ℕ → Said (Result (List Float))
+physicalSaid n x file block codes np = saying (λ scheme. fillOf scheme file block codes np) (schemeSaid n x)
 
 -- what the code says of a scheme's number
 abbrev pub askedOf : Asked → Said Scheme

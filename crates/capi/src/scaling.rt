@@ -1,20 +1,23 @@
-// Scale fields, thresholds and levels.
+// Scale fields, thresholds, levels and physical values.
 use crate::report::Report;
 use crate::report::is_short;
 use crate::report::refusal_report;
 use crate::report::wholes;
 use crate::report::write_report;
+use crate::sweeps::Asked;
+use crate::sweeps::scheme_of;
 use head::header::Place;
 use scale::pdb::LinearScaleRead;
 use scale::pdb::PrecipScaleRead;
+use scale::physical::Filled;
 ghost use mathlib.Core.Path.{_≡_};
 ghost use lib.ListN.{length, take, drop};
 ghost use Rattle.head.specs.Outcome.{place};
-ghost use Rattle.scale.specs.Outcome.{linearOf, precipOf};
+ghost use Rattle.scale.specs.Outcome.{linearOf, precipOf, filledOf};
 ghost use Rattle.scale.specs.Pdb.{valueScalingLinearHw, valueScalingFloat, precipFamilyScale};
 ghost use Rattle.capi.specs.Report.{reportOf, said, saying, roomFirst, Leaves, lentBy, plainNumber, plainAfter};
 ghost use Rattle.capi.specs.Places.{noReport, linearReport, precipReport};
-ghost use Rattle.capi.specs.Entries.{thresholdSaid, levelsSaid};
+ghost use Rattle.capi.specs.Entries.{thresholdSaid, levelsSaid, physicalSaid};
 
 fn linear_report(r: LinearScaleRead) -> Report
     ensures { λ x. ⌜ x ≡ reportOf (linearOf r) linearReport ⌝ }
@@ -40,6 +43,15 @@ fn found_report(r: Place) -> Report
     match r {
         Place::At(_) => wholes(0, 0, 0, 0, 0),
         Place::Refused(e) => refusal_report(e),
+    }
+}
+
+fn filled_report(r: Filled) -> Report
+    ensures { λ x. ⌜ x ≡ reportOf (filledOf r) noReport ⌝ }
+{
+    match r {
+        Filled::Done => wholes(0, 0, 0, 0, 0),
+        Filled::Refused(e) => refusal_report(e),
     }
 }
 
@@ -126,4 +138,29 @@ pub extern "C" fn l3_legacy16(thresholds: &[u8], post_scale: f32, levels: &mut [
     let values = scale::legacy16::decode_legacy16(&bytes, post_scale);
     crate::copies::copy_f32(&values, levels);
     0
+}
+
+#[no_mangle]
+pub extern "C" fn l3_physical(
+    file: &[u8],
+    block: usize,
+    scheme: u32,
+    parameter: f32,
+    codes: &[u16],
+    physical: &mut [f32],
+    ints: &mut [u64],
+    floats: &mut [f64],
+) -> u32
+    ensures { λ r. ⌜ Leaves (saying (λ a. reportOf a noReport) (physicalSaid scheme parameter (now (file .entry)) block (now (codes .entry)) (length (now (physical .entry))))) r (now (ints .entry)) (now (ints .exit)) (now (floats .entry)) (now (floats .exit)) ⌝ }
+    ensures { λ _. ⌜ now (physical .exit) ≡ lentBy (roomFirst (now (ints .entry)) (now (floats .entry)) (physicalSaid scheme parameter (now (file .entry)) block (now (codes .entry)) (length (now (physical .entry))))) (λ values. values) (now (physical .entry)) ⌝ }
+{
+    if is_short(ints.len(), floats.len()) {
+        return 100;
+    }
+    let asked = match scheme_of(scheme, parameter) {
+        Asked::Known(s) => s,
+        Asked::Unknown => return 101,
+    };
+    let answer = scale::physical::fill_physical(asked, file, block, codes, physical);
+    write_report(filled_report(answer), ints, floats)
 }

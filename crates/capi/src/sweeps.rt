@@ -18,7 +18,7 @@ pub enum Asked {
     Unknown,
 }
 
-fn scheme_of(number: u32, parameter: f32) -> Asked
+pub(crate) fn scheme_of(number: u32, parameter: f32) -> Asked
     ensures { λ r. ⌜ askedOf r ≡ schemeSaid number parameter ⌝ }
 {
     if number == 0 {
