@@ -1,3 +1,4 @@
 pub mod Counting
 pub mod Digits
+pub mod InPart
 pub mod Signs
