@@ -1,4 +1,6 @@
 pub mod Counting
+pub mod Decimals
 pub mod Digits
+pub mod Examples
 pub mod InPart
 pub mod Signs
