@@ -22,8 +22,8 @@ use Rattle.symbology.specs.declared.figures.Figures.{Figures}
 use Rattle.symbology.specs.declared.figures.Terms.{Terms}
 use Rattle.sweep.specs.declared.plan.Head.{Head}
 use Rattle.sweep.specs.declared.sweep.Sweep.{Sweep}
-use Rattle.sweep.specs.Sweep.{headOf, Accepted, sweepOf, sweepIn}
-use Rattle.sweep.proofs.Parts.{clash, one-value, block-start, parts, sizes}
+use Rattle.sweep.specs.Sweep.{Accepted, sweepOf, sweepIn}
+use Rattle.sweep.proofs.Parts.{block-start, parts, sizes}
 use Rattle.sweep.proofs.Reading as reading
 
 -- ---- lists
@@ -45,15 +45,15 @@ take-least l k = go (leb k (length l)) refl
 -- ---- a sweep that was read
 
 refused-sweep : (z : Result Accepted) {x : Refusal} → refused x ≡ sweepIn z → z ≡ refused x
-refused-sweep (accepted q) {x} e = clash (q .sweep) x e
+refused-sweep (accepted q) e = let z : _≡_ {A = ℕ} 0 1 = cc in absurd (omega arith)
 refused-sweep (refused y) e = ap refused (same (sym e))
   where
     same : {x y : Refusal} → _≡_ {A = Result Sweep} (refused x) (refused y) → x ≡ y
     same h = cc
 
 accepted-sweep : (z : Result Accepted) {s : Sweep} → accepted s ≡ sweepIn z → (q : Accepted) × (z ≡ accepted q) × (q .sweep ≡ s)
-accepted-sweep (accepted q) e = (q, refl, sym (one-value e))
-accepted-sweep (refused x) {s} e = clash s x (sym e)
+accepted-sweep (accepted q) {s} e = let same : _≡_ {A = Sweep} (q .sweep) s = cc in (q, refl, same)
+accepted-sweep (refused x) e = let z : _≡_ {A = ℕ} 0 1 = cc in absurd (omega arith)
 
 -- a buffer of physical values as long as that of the codes
 abbrev pub full : List ℕ → List Float
@@ -73,33 +73,23 @@ module _ (scheme : Scheme) (file : List ℕ) (clock : ℕ) (body : List ℕ) (az
       × ((az' ≡ lent (S (length cs)) (λ p. p .azimuths) az)
       × ((cs' ≡ lent (S (length cs)) (λ p. p .codes) cs) × (ph' ≡ lent (S (length cs)) (λ p. take (length ph) (p .physical)) ph)))
 
-  -- what is told of the long buffer
-  abbrev Told : Result Sweep → List Float → List ℕ → Type 0
-  Told r az' cs' =
+  -- the same of the long buffer
+  abbrev Told : Result Sweep → List Float → List ℕ → List Float → Type 0
+  Told r az' cs' ph' =
       (r ≡ sweepIn (S (length (full cs))))
-      × ((az' ≡ lent (S (length (full cs))) (λ p. p .azimuths) az) × (cs' ≡ lent (S (length (full cs))) (λ p. p .codes) cs))
+      × ((az' ≡ lent (S (length (full cs))) (λ p. p .azimuths) az)
+      × ((cs' ≡ lent (S (length (full cs))) (λ p. p .codes) cs) × (ph' ≡ lent (S (length (full cs))) (λ p. p .physical) (full cs))))
 
-  reads : {r : Result Sweep} {az' : List Float} {cs' : List ℕ} {ph' : List Float} → Told r az' cs' → ph' ≡ lent (S (length cs)) (λ p. take (length ph) (p .physical)) ph
+  reads : {r : Result Sweep} {az' ph' values : List Float} {cs' : List ℕ} → Told r az' cs' values → ph' ≡ lent (S (length cs)) (λ p. take (length ph) (p .physical)) ph
       → Reads r az' cs' ph'
   reads t v = (
     t .0 ∙ ap sweepIn same,
-    (t .1 .0 ∙ ap (λ d. lent d (λ p. p .azimuths) az) same, (t .1 .1 ∙ ap (λ d. lent d (λ p. p .codes) cs) same, v)),
+    (t .1 .0 ∙ ap (λ d. lent d (λ p. p .azimuths) az) same, (t .1 .1 .0 ∙ ap (λ d. lent d (λ p. p .codes) cs) same, v)),
   )
 
-  untouched : {x : Refusal} → refused x ≡ sweepIn (S (length (full cs))) → ph ≡ lent (S (length cs)) (λ p. take (length ph) (p .physical)) ph
-  untouched e = sym (ap (λ d. lent d (λ p. take (length ph) (p .physical)) ph) (sym same ∙ refused-sweep _ e))
-
-  pub head-refused : {x : Refusal} → refused x ≡ headOf scheme file clock → Reads (refused x) az cs ph
-  head-refused e =
-      let t = reading.head-refused scheme file clock body az cs (full cs) e in
-      reads (t .0, (t .1 .0, t .1 .1 .0)) (untouched (t .0))
-
-  -- the same where a body was refused
-  pub body-refused : {x : Refusal} {az' ph' : List Float} {cs' : List ℕ}
-      → (refused x ≡ sweepIn (S (length (full cs)))) × ((az' ≡ lent (S (length (full cs))) (λ p. p .azimuths) az) × ((cs' ≡ lent (S (length (full cs))) (λ p. p .codes) cs)
-      × (ph' ≡ lent (S (length (full cs))) (λ p. p .physical) (full cs))))
-      → Reads (refused x) az' cs' ph
-  body-refused t = reads (t .0, (t .1 .0, t .1 .1 .0)) (untouched (t .0))
+  -- a refusal there is one here, and writes nothing
+  pub refuses : {x : Refusal} {az' values : List Float} {cs' : List ℕ} → Told (refused x) az' cs' values → Reads (refused x) az' cs' ph
+  refuses t = reads t (sym (ap (λ d. lent d (λ p. take (length ph) (p .physical)) ph) (sym same ∙ refused-sweep _ (t .0))))
 
 -- ---- after symbology's entry has accepted
 
@@ -108,6 +98,7 @@ module _ {scheme : Scheme} {file : List ℕ} {clock : ℕ} {body : List ℕ} {az
   abbrev Z : Result Accepted
   Z = sweepOf scheme file clock body (length az) (length cs) (length (full cs))
 
+  -- the answer on the long buffer, and the sweep that it is of
   on-full : (accepted (record { token = h .token; fields = h .fields; time = h .time; declared = reading.drawn-here w .declared; figures = f }) ≡ sweepIn Z)
       × (cs' ≡ lent Z (λ p. p .codes) cs)
   on-full = let t = reading.read w c (reading.drawn-here w .declares) refl refl in (t .0, t .1 .1 .0)
@@ -126,7 +117,8 @@ module _ {scheme : Scheme} {file : List ℕ} {clock : ℕ} {body : List ℕ} {az
   valued : q .physical ≡ map (physicalOf scheme file (h .block)) (q .codes)
   valued =
       let p = parts scheme file clock (length az) (length cs) (length (full cs)) body q (found .1) in
-      p .physical ∙ ap (λ (x : Head). map (physicalOf scheme file (x .block)) (q .codes)) (one-value (sym (p .head-is) ∙ sym (w .head-is)))
+      let same : _≡_ {A = Head} (p .head) h = cc in
+      p .physical ∙ ap (λ (x : Head). map (physicalOf scheme file (x .block)) (q .codes)) same
 
   -- the values of the first n cells, as many as there are and as there is room for
   module _ {n : ℕ} (least : n ≡ min (f .«n_radials» * f .«n_bins») (length ph)) where
@@ -149,14 +141,16 @@ module _ {scheme : Scheme} {file : List ℕ} {clock : ℕ} {body : List ℕ} {az
 
     -- an answer of the code that can't be
     pub fill-accepts : {C : Type 0} {x : Refusal} → _≡_ {A = Result (Unit {0})} (refused x) (then (fillOf scheme file (h .block) (take n cs') (length ph)) λ _. accepted tt) → C
-    fill-accepts {C} {x} e = clash tt x (e ∙ ap {B = Result (Unit {0})} (λ r. then r λ _. accepted tt) filled)
+    fill-accepts {C} {x} e =
+        let e' : _≡_ {A = Result (Unit {0})} (refused x) (accepted tt) = e ∙ ap {B = Result (Unit {0})} (λ r. then r λ _. accepted tt) filled in
+        let z : _≡_ {A = ℕ} 0 1 = cc in
+        absurd (omega arith)
 
     pub read : {declared : Declared} {az' ph' : List Float} → d ≡ DeclaredScaleRead.Value declared
         → az' ≡ lent (decodeFor t body (length az) (length cs)) (λ p. p .azimuths) az
         → ph' ≡ lent (fillOf scheme file (h .block) (take n cs') (length ph)) (λ values. values) ph
         → Reads scheme file clock body az cs ph (accepted (record { token = h .token; fields = h .fields; time = h .time; declared = declared; figures = f })) az' cs' ph'
     read is a v =
-        let t = reading.read w c is a refl in
-        reads scheme file clock body az cs ph (t .0, (t .1 .0, t .1 .1 .0))
+        reads scheme file clock body az cs ph (reading.read w c is a refl)
         (v ∙ ap (λ r. lent r (λ values. values) ph) filled
         ∙ sym (ap (λ d. lent d (λ p. take (length ph) (p .physical)) ph) (sym (same scheme file clock body az cs ph) ∙ found .1)))

@@ -1,4 +1,4 @@
-use Rattle.show.proofs.InPart.{full, head-refused, body-refused, fill-accepts, read}
+use Rattle.show.proofs.InPart.{full, refuses, fill-accepts, read}
 use Rattle.sweep.proofs.Reading as reading
 use Rattle.sweep.specs.Sweep.{headReadOf}
 use Rattle.symbology.specs.Answers.{figuresOf}
@@ -43,7 +43,7 @@ enum-known-e : tie.Need-enum-known-e
 enum-known-e c = search needs
 
 returns : tie.Need-returns
-returns c = head-refused _ _ _ _ _ _ (now (c .before .before .before .before .before .before .before .before .before .args .values)) (ap headReadOf (sym (c .before .e .given .1)) ∙ c .before .before .before .read-head .ensures)
+returns c = refuses _ _ _ _ (now (c .before .before .before .before .before .before .before .before .before .args .azimuths)) (now (c .before .before .before .before .before .before .before .before .before .args .codes)) (now (c .before .before .before .before .before .before .before .before .before .args .values)) (reading.head-refused _ _ _ _ (now (c .before .before .before .before .before .before .before .before .before .args .azimuths)) (now (c .before .before .before .before .before .before .before .before .before .args .codes)) (full (now (c .before .before .before .before .before .before .before .before .before .args .codes))) (ap headReadOf (sym (c .before .e .given .1)) ∙ c .before .before .before .read-head .ensures))
 
 declared-scale-requires : tie.Need-declared-scale-requires
 declared-scale-requires c κs = search needs
@@ -67,7 +67,7 @@ same-length-2 : tie.Need-same-length-2
 same-length-2 c = search needs
 
 returns-2 : tie.Need-returns-2
-returns-2 c = body-refused _ _ _ _ (now (c .before .before .before .before .before .before .before .before .before .before .before .before .before .before .before .before .before .before .before .before .before .args .azimuths)) (now (c .before .before .before .before .before .before .before .before .before .before .before .before .before .before .before .before .before .before .before .before .before .args .codes)) (now (c .before .before .before .before .before .before .before .before .before .before .before .before .before .before .before .before .before .before .before .before .before .args .values)) (reading.body-refused _ _ _ _ (now (c .before .before .before .before .before .before .before .before .before .before .before .before .before .before .before .before .before .before .before .before .before .args .azimuths)) (now (c .before .before .before .before .before .before .before .before .before .before .before .before .before .before .before .before .before .before .before .before .before .args .codes)) (full (now (c .before .before .before .before .before .before .before .before .before .before .before .before .before .before .before .before .before .before .before .before .before .args .codes))) (c .before .before .before .before .before .before .before .before .before .before .before .before .before .h .given .0 .0) (c .before .before .before .before .before .before .before .before .before .before .before .declared-scale .result) (c .before .before .before .before .before .before .before .before .before .before .terms-for .result) (ap headReadOf (sym (c .before .before .before .before .before .before .before .before .before .before .before .before .before .h .given .1)) ∙ c .before .before .before .before .before .before .before .before .before .before .before .before .before .before .before .read-head .ensures) (c .before .before .before .before .before .before .before .before .before .before .before .declared-scale .ensures) (rw length-map (c .before .before .before .before .before .before .before .before .before .before .terms-for .ensures)) (ap figuresOf (sym (c .before .e2 .given .1)) ∙ c .before .before .before .before .before .before .before .decode-for .ensures .0) (c .before .before .before .before .before .before .before .decode-for .ensures .1 .0) (c .before .before .before .before .before .before .before .decode-for .ensures .1 .1))
+returns-2 c = refuses _ _ _ _ (now (c .before .before .before .before .before .before .before .before .before .before .before .before .before .before .before .before .before .before .before .before .before .args .azimuths)) (now (c .before .before .before .before .before .before .before .before .before .before .before .before .before .before .before .before .before .before .before .before .before .args .codes)) (now (c .before .before .before .before .before .before .before .before .before .before .before .before .before .before .before .before .before .before .before .before .before .args .values)) (reading.body-refused _ _ _ _ (now (c .before .before .before .before .before .before .before .before .before .before .before .before .before .before .before .before .before .before .before .before .before .args .azimuths)) (now (c .before .before .before .before .before .before .before .before .before .before .before .before .before .before .before .before .before .before .before .before .before .args .codes)) (full (now (c .before .before .before .before .before .before .before .before .before .before .before .before .before .before .before .before .before .before .before .before .before .args .codes))) (c .before .before .before .before .before .before .before .before .before .before .before .before .before .h .given .0 .0) (c .before .before .before .before .before .before .before .before .before .before .before .declared-scale .result) (c .before .before .before .before .before .before .before .before .before .before .terms-for .result) (ap headReadOf (sym (c .before .before .before .before .before .before .before .before .before .before .before .before .before .h .given .1)) ∙ c .before .before .before .before .before .before .before .before .before .before .before .before .before .before .before .read-head .ensures) (c .before .before .before .before .before .before .before .before .before .before .before .declared-scale .ensures) (rw length-map (c .before .before .before .before .before .before .before .before .before .before .terms-for .ensures)) (ap figuresOf (sym (c .before .e2 .given .1)) ∙ c .before .before .before .before .before .before .before .decode-for .ensures .0) (c .before .before .before .before .before .before .before .decode-for .ensures .1 .0) (c .before .before .before .before .before .before .before .decode-for .ensures .1 .1))
 
 mul-cells : tie.Need-mul-cells
 mul-cells c = record { fits = omega (arith, reading.drawn-here (here c) .codes-room, c .before .before .before .before .before .before .before .before .before .before .before .before .before .before .before .before .before .before .before .before .before .before .good .1 .1 .1 .1 .1 .0) }
