@@ -1,4 +1,3 @@
-pub mod Counting
 pub mod Decimals
 pub mod Digits
 pub mod Examples
