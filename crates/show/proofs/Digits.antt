@@ -1,18 +1,15 @@
 -- Laws for the two loops over digits: halving, and the number that a text makes. Assumes nothing.
 use mathlib.Core.Path.{_≡_, refl, sym, ap, _∙_}
-use mathlib.Core.List.{List, [], _∷_}
-use mathlib.Core.Bool.{Bool, true, false, cond, _&&_}
+use mathlib.Core.List.{List, _∷_}
 use Prim.Native.Nat.{ℕ, suc, _+_, _-_, _*_, _/_, _^_, _≤_, _<_}
-use native.Mathlib.Nat.{div-div-eq-div-mul, div-one, pow-succ', pow-zero, div-le-self}
+use native.Mathlib.Nat.{div-div-eq-div-mul, div-one, pow-succ'}
 use native.Mathlib.Numerals.{add-one}
 use native.Mathlib.Omega.{arith}
-use lib.Dec.{leb, ltb}
 use lib.ListN.{length, getD, drop}
 use lib.Seq.{drop-cons, drop-length}
 use borrow.Author.Tests.{le-leb, lt-leb, lt-ltb, le-ltb}
 use Rattle.show.specs.Rounded.{rounded}
-use Rattle.show.specs.Words.{numberFrom, isDigit}
-use Rattle.show.specs.declared.words.Number.{Number}
+use Rattle.show.specs.Words.{numberFrom}
 use Rattle.show.specs.declared.words.Number.the-variants.{Value, Bad}
 
 -- what is left of the halving gives the whole's result

@@ -1,3 +1,5 @@
-pub mod Counting
+pub mod Decimals
 pub mod Digits
+pub mod Examples
+pub mod InPart
 pub mod Signs

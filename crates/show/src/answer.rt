@@ -1,6 +1,4 @@
 // The sweep reading on the program's buffers, and its answer in words.
-use bytes::error::Buffer;
-use bytes::error::Level3DecodeError;
 use scale::physical::DeclaredScaleRead;
 use scale::physical::Filled;
 use scale::physical::Scheme;
@@ -8,81 +6,54 @@ use sweep::plan::HeadRead;
 use sweep::sweep::Sweep;
 use sweep::sweep::SweepAnswer;
 use symbology::figures::FiguresRead;
+ghost use mathlib.Core.Path.{_≡_};
+ghost use lib.ListN.{length, take};
+ghost use Rattle.bytes.specs.Result.{lent};
+ghost use Rattle.sweep.specs.Sweep.{sweepOf, sweepIn, answerOf};
 
-// A sweep that lacks nothing but room for all its physical values: the codes in full, and the values of as many cells as there is
-// room for.
-fn read_in_part(
-    scheme: Scheme,
+// The sweep reading as it is with room for as many physical values as codes. `values` gets those that it has room for, the first ones.
+fn read(
     file: &[u8],
     clock: u64,
+    scheme: Scheme,
     body: &[u8],
-    physical: &mut [f32],
-    codes: &mut [u16],
     azimuths: &mut [f64],
-) -> SweepAnswer {
+    codes: &mut [u16],
+    values: &mut [f32],
+) -> SweepAnswer
+    ensures { λ r. ⌜ answerOf r ≡ sweepIn (sweepOf scheme (now (file .entry)) clock (now (body .entry)) (length (now (azimuths .entry))) (length (now (codes .entry))) (length (now (codes .entry)))) ⌝ }
+    ensures { λ _. ⌜ now (azimuths .exit) ≡ lent (sweepOf scheme (now (file .entry)) clock (now (body .entry)) (length (now (azimuths .entry))) (length (now (codes .entry))) (length (now (codes .entry)))) (λ p. p .azimuths) (now (azimuths .entry)) ⌝ }
+    ensures { λ _. ⌜ now (codes .exit) ≡ lent (sweepOf scheme (now (file .entry)) clock (now (body .entry)) (length (now (azimuths .entry))) (length (now (codes .entry))) (length (now (codes .entry)))) (λ p. p .codes) (now (codes .entry)) ⌝ }
+    ensures { λ _. ⌜ now (values .exit) ≡ lent (sweepOf scheme (now (file .entry)) clock (now (body .entry)) (length (now (azimuths .entry))) (length (now (codes .entry))) (length (now (codes .entry)))) (λ p. take (length (now (values .entry))) (p .physical)) (now (values .entry)) ⌝ }
+{
     let head = match sweep::plan::read_head(scheme, file, clock) {
         HeadRead::Value(h) => h,
         HeadRead::Refused(e) => return SweepAnswer::Refused(e),
     };
     let scaling = head.scaling;
-    let declared = match scale::physical::declared_scale(scaling) {
-        DeclaredScaleRead::Value(d) => d,
-        DeclaredScaleRead::Refused(e) => return SweepAnswer::Refused(e),
-    };
-    let figures = match symbology::symbology::decode_symbology(body, azimuths, codes) {
+    let declared = scale::physical::declared_scale(scaling);
+    let terms = sweep::plan::terms_for(scheme, declared, codes.len());
+    let figures = match symbology::symbology::decode_for(body, terms, azimuths, codes) {
         FiguresRead::Value(f) => f,
         FiguresRead::Refused(e) => return SweepAnswer::Refused(e),
     };
-    let block = head.block;
-    let fields = head.fields;
-    let room = physical.len();
-    if codes.len() < room {
-        return SweepAnswer::Refused(Level3DecodeError::BufferTooShort {
-            buffer: Buffer::Codes,
-        });
+    let cells = figures.n_radials * figures.n_bins;
+    let n = crate::picture::least(cells, values.len());
+    match scale::physical::fill_physical(scheme, file, head.block, &codes[..n], values) {
+        Filled::Refused(e) => return SweepAnswer::Refused(e),
+        Filled::Done => {}
     }
-    match scale::physical::fill_physical(scheme, file, block, &codes[..room], physical) {
-        Filled::Refused(e) => SweepAnswer::Refused(e),
-        Filled::Done => SweepAnswer::Accepted(Sweep {
+    let fields = head.fields;
+    match declared {
+        DeclaredScaleRead::Refused(e) => SweepAnswer::Refused(e),
+        DeclaredScaleRead::Value(d) => SweepAnswer::Accepted(Sweep {
             token: head.token,
             fields,
             time: head.time,
-            declared,
+            declared: d,
             figures,
         }),
     }
-}
-
-// Whether the physical values alone lack room.
-fn is_part(answer: SweepAnswer) -> bool {
-    match answer {
-        SweepAnswer::Accepted(_) => false,
-        SweepAnswer::Refused(e) => match e {
-            Level3DecodeError::BufferTooShort { buffer } => match buffer {
-                Buffer::Physical => true,
-                Buffer::Azimuths => false,
-                Buffer::Codes => false,
-            },
-            _ => false,
-        },
-    }
-}
-
-// The sweep reading's answer; where only room for the physical values lacks, the answer in part.
-fn read(
-    file: &[u8],
-    body: &[u8],
-    scheme: Scheme,
-    clock: u64,
-    azimuths: &mut [f64],
-    codes: &mut [u16],
-    physical: &mut [f32],
-) -> SweepAnswer {
-    let answer = sweep::sweep::read_sweep(file, clock, scheme, body, azimuths, codes, physical);
-    if is_part(answer) {
-        return read_in_part(scheme, file, clock, body, physical, codes, azimuths);
-    }
-    answer
 }
 
 pub fn show(file: &[u8], clock: u64, scheme: Scheme, body: &[u8]) {
@@ -91,9 +62,9 @@ pub fn show(file: &[u8], clock: u64, scheme: Scheme, body: &[u8]) {
     let mut physical = crate::buffers::physical();
     match read(
         file,
-        body,
-        scheme,
         clock,
+        scheme,
+        body,
         &mut azimuths,
         &mut codes,
         &mut physical,

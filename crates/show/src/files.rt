@@ -1,6 +1,4 @@
 // A file named by an argument, read into an array.
-ghost use Prim.Native.Nat.{_≤_};
-ghost use lib.ListN.{length};
 ghost use Rattle.io.specs.Counts.{Counts};
 
 pub enum Loaded {
@@ -65,7 +63,7 @@ pub fn load(i: usize, buf: &mut [u8]) -> Loaded {
     let mut path = io::buffer();
     let n = os::arg(i, &mut path);
     if os::errno() != 0 {
-        os::fail(b"show: a file's name");
+        os::fail(b"show: the name of FILE or BODY");
         return Loaded::Failed;
     }
     let fd = os::open_read(&path[..n]);

@@ -84,7 +84,7 @@ fn print_small(negative: bool, rest: u64)
     crate::text::whole(150 - exponent);
 }
 
-// Spaces up to the width, the sign, and the digits around the point: a unit is 1,000 or 1,000,000 parts of a whole.
+// Spaces up to the width, the sign, and the digits around the point: `unit` parts make a whole.
 fn print_units(negative: bool, n: u64, unit: u64, width: usize)
     requires { ⌜ (0 < unit) × (unit ≤ 1000000) ⌝ }
 {

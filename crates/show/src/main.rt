@@ -3,7 +3,6 @@
 // An accepted sweep goes to standard output as text, a refusal as one line that begins `refused:`. What keeps the program from
 // asking, as a wrong argument or a file that can't be read, goes to standard error.
 use scale::physical::Scheme;
-use sweep::sweep::SweepAnswer;
 
 mod answer;
 mod buffers;
@@ -20,8 +19,8 @@ use words::SchemeWord;
 
 fn print_usage() {
     text::warn(b"usage: show FILE BODY SCHEME [CLOCK]\n");
-    text::warn(b"  FILE    the product file; its first 4,096 bytes are read\n");
-    text::warn(b"  BODY    the unpacked symbology body, at most 1,400,000 bytes\n");
+    text::warn(b"  FILE    the product file; its first 4096 bytes are read\n");
+    text::warn(b"  BODY    the unpacked symbology body, at most 1400000 bytes\n");
     text::warn(b"  SCHEME  halfword, float, precipitation:FACTOR, legacy:POSTSCALE or class\n");
     text::warn(b"          FACTOR and POSTSCALE are numbers such as 1, 25.4 or 0.01: at most\n");
     text::warn(b"          7 digits beside leading zeros, at most 10 after the point\n");
@@ -42,7 +41,7 @@ fn run(scheme: Scheme, clock: u64) {
         Loaded::Whole(n) => n,
         Loaded::Part(_) => {
             text::warn(
-                b"show: the body has more than 1,400,000 bytes, for which this program has no room;",
+                b"show: the body has more than 1400000 bytes, for which this program has no room;",
             );
             text::warn(b" the library reads bodies of any length\n");
             return;

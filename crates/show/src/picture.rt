@@ -6,7 +6,8 @@ use sweep::sweep::Sweep;
 use symbology::figures::Figures;
 use symbology::figures::Geometry;
 use symbology::figures::Packet;
-ghost use Prim.Native.Nat.{_≤_};
+ghost use mathlib.Core.Path.{_≡_};
+ghost use Prim.Native.Nat.{min};
 
 // A line's name, in a column of its own.
 fn label(s: &[u8]) {
@@ -117,8 +118,8 @@ fn print_figures(f: Figures) {
     }
 }
 
-fn least(a: usize, b: usize) -> usize
-    ensures { λ r. ⌜ (r ≤ a) × (r ≤ b) ⌝ }
+pub fn least(a: usize, b: usize) -> usize
+    ensures { λ r. ⌜ r ≡ min a b ⌝ }
 {
     if a < b { a } else { b }
 }

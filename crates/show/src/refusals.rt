@@ -101,7 +101,7 @@ fn print_scale(e: Level3DecodeError) {
     }
 }
 
-// 11 to 14: the body's ends.
+// 11 to 14: around the packet.
 fn print_body(e: Level3DecodeError) {
     match e {
         Level3DecodeError::UnexpectedTrailingBytes { trailing_len } => {
@@ -117,8 +117,8 @@ fn print_body(e: Level3DecodeError) {
         Level3DecodeError::BadSymbologyHeader { divider, block_id } => {
             kind(13, b"BadSymbologyHeader");
             signed(b"divider ", crate::text::wide_signed(divider));
-            signed(b" for -1, block ", crate::text::wide_signed(block_id));
-            words(b" for 1");
+            signed(b" and block ", crate::text::wide_signed(block_id));
+            words(b", not -1 and 1");
         }
         Level3DecodeError::UnsupportedPacketCode { code } => {
             kind(14, b"UnsupportedPacketCode");
@@ -158,7 +158,8 @@ fn print_grid(e: Level3DecodeError) {
             kind(18, b"AllocationExceedsBody");
             grid(n_radials, n_bins);
             size(b" need ", needed);
-            size(b" bytes of ", available);
+            size(b" bytes, ", available);
+            words(b" are there");
         }
         _ => print_radial(e),
     }
@@ -227,7 +228,8 @@ fn print_items(e: Level3DecodeError) {
             kind(23, b"XdrTruncated");
             item(context);
             size(b" needs ", need);
-            size(b" bytes of ", have);
+            size(b" bytes, ", have);
+            words(b" are left");
         }
         Level3DecodeError::XdrStringTooLong { len, max } => {
             kind(24, b"XdrStringTooLong");
@@ -256,7 +258,7 @@ fn print_component(e: Level3DecodeError) {
         Level3DecodeError::UnexpectedXdrComponentCount(n) => {
             kind(28, b"UnexpectedXdrComponentCount");
             size(b"", n);
-            words(b" components for 1");
+            words(b" components, not 1");
         }
         Level3DecodeError::NonPositiveXdrGeometry { n_radials, n_bins } => {
             kind(29, b"NonPositiveXdrGeometry");
@@ -269,12 +271,12 @@ fn print_component(e: Level3DecodeError) {
             signed(b"radials ", n_radials);
             signed(b", over ", max);
         }
-        _ => print_strip(e),
+        _ => print_xdr_counts(e),
     }
 }
 
-// 31 to 34: a radial of packet 28.
-fn print_strip(e: Level3DecodeError) {
+// 31 and 32: the counts of a radial of packet 28.
+fn print_xdr_counts(e: Level3DecodeError) {
     match e {
         Level3DecodeError::XdrRadialBinCountMismatch {
             radial,
@@ -297,6 +299,13 @@ fn print_strip(e: Level3DecodeError) {
             size(b" integers for ", num_bins);
             words(b" bins");
         }
+        _ => print_xdr_cells(e),
+    }
+}
+
+// 33 and 34: the cells of packet 28.
+fn print_xdr_cells(e: Level3DecodeError) {
+    match e {
         Level3DecodeError::XdrGridTooLarge {
             n_radials,
             n_bins,

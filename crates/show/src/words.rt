@@ -1,9 +1,10 @@
 // The arguments SCHEME and CLOCK.
 use scale::physical::Scheme;
 ghost use mathlib.Core.Path.{_≡_};
-ghost use Prim.Native.Nat.{_≤_};
-ghost use lib.ListN.{length};
-ghost use Rattle.show.specs.Words.{numberFrom};
+ghost use Prim.Native.Nat.{_≤_, _^_};
+ghost use Rattle.bytes.specs.Float.{f32};
+ghost use Rattle.show.specs.Words.{numberFrom, pointAt, quotientOf, decimalOf, with-number, begins, schemeOf};
+ghost use Rattle.scale.specs.declared.physical.Scheme.the-variants as Scheme;
 
 pub enum SchemeWord {
     Value(Scheme),
@@ -62,7 +63,7 @@ fn number_from(n: u64, text: &[u8]) -> Number
 
 // The place of the first point, or the length.
 fn point(text: &[u8]) -> usize
-    ensures { λ r. ⌜ r ≤ length (now (text .entry)) ⌝ }
+    ensures { λ r. ⌜ r ≡ pointAt (now (text .entry)) ⌝ }
 {
     let mut i = 0usize;
     while i < text.len() {
@@ -77,6 +78,7 @@ fn point(text: &[u8]) -> usize
 // 10^k, exact in f32 up to k = 10.
 fn ten_to(k: usize) -> f32
     requires { ⌜ k ≤ 10 ⌝ }
+    ensures { λ r. ⌜ r ≡ f32 (10 ^ k) 1 ⌝ }
 {
     let powers = [
         1.0f32,
@@ -95,7 +97,9 @@ fn ten_to(k: usize) -> f32
 }
 
 // n / 10^k, rounded once: below 2^24 and up to 10^10 both are f32 exactly.
-fn quotient(n: u64, k: usize) -> Decimal {
+fn quotient(n: u64, k: usize) -> Decimal
+    ensures { λ r. ⌜ r ≡ quotientOf n k ⌝ }
+{
     if 9999999 < n {
         return Decimal::Bad;
     }
@@ -106,7 +110,9 @@ fn quotient(n: u64, k: usize) -> Decimal {
 }
 
 // The digits before the point and, where there is one, those after it.
-fn decimal_of(text: &[u8]) -> Decimal {
+fn decimal_of(text: &[u8]) -> Decimal
+    ensures { λ r. ⌜ r ≡ decimalOf (now (text .entry)) ⌝ }
+{
     let p = point(text);
     if p == 0 {
         return Decimal::Bad;
@@ -117,9 +123,6 @@ fn decimal_of(text: &[u8]) -> Decimal {
     };
     if p == text.len() {
         return quotient(whole, 0);
-    }
-    if 9999999 < whole {
-        return Decimal::Bad;
     }
     let after = p + 1;
     let k = text.len() - after;
@@ -132,22 +135,39 @@ fn decimal_of(text: &[u8]) -> Decimal {
     }
 }
 
-fn precipitation(text: &[u8]) -> SchemeWord {
+fn precipitation(text: &[u8]) -> SchemeWord
+    ensures { λ r. ⌜ r ≡ with-number Scheme.Precipitation (decimalOf (now (text .entry))) ⌝ }
+{
     match decimal_of(text) {
         Decimal::Value(factor) => SchemeWord::Value(Scheme::Precipitation { factor }),
         Decimal::Bad => SchemeWord::BadNumber,
     }
 }
 
-fn legacy(text: &[u8]) -> SchemeWord {
+fn legacy(text: &[u8]) -> SchemeWord
+    ensures { λ r. ⌜ r ≡ with-number Scheme.Legacy (decimalOf (now (text .entry))) ⌝ }
+{
     match decimal_of(text) {
         Decimal::Value(post_scale) => SchemeWord::Value(Scheme::Legacy { post_scale }),
         Decimal::Bad => SchemeWord::BadNumber,
     }
 }
 
+// Whether a word begins with a name.
+fn starts_with(word: &[u8], name: &[u8]) -> bool
+    ensures { λ r. ⌜ r ≡ begins (now (name .entry)) (now (word .entry)) ⌝ }
+{
+    let n = name.len();
+    if word.len() < n {
+        return false;
+    }
+    bytes::text::same(&word[..n], name)
+}
+
 // The scheme that a word names.
-fn scheme_of(word: &[u8]) -> SchemeWord {
+fn scheme_of(word: &[u8]) -> SchemeWord
+    ensures { λ r. ⌜ r ≡ schemeOf (now (word .entry)) ⌝ }
+{
     if bytes::text::same(word, b"halfword") {
         return SchemeWord::Value(Scheme::Halfword);
     }
@@ -157,15 +177,11 @@ fn scheme_of(word: &[u8]) -> SchemeWord {
     if bytes::text::same(word, b"class") {
         return SchemeWord::Value(Scheme::Class);
     }
-    if 14 <= word.len() {
-        if bytes::text::same(&word[..14], b"precipitation:") {
-            return precipitation(&word[14..]);
-        }
+    if starts_with(word, b"precipitation:") {
+        return precipitation(&word[14..]);
     }
-    if 7 <= word.len() {
-        if bytes::text::same(&word[..7], b"legacy:") {
-            return legacy(&word[7..]);
-        }
+    if starts_with(word, b"legacy:") {
+        return legacy(&word[7..]);
     }
     SchemeWord::Unknown
 }

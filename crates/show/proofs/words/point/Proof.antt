@@ -1,23 +1,29 @@
+use Rattle.bytes.proofs.Walks.{Walk, walk-first, front, front-next, front-stop, front-end}
+use Rattle.show.specs.Words.{noPoint, pointAt}
 use borrow.Author.Needs.{needs}
-use Prim.Native.Nat.{_≤_, _-_}
+use borrow.Author.Tests.{eq-eqb, ne-eqb}
+use mathlib.Core.Bool.{not}
+use mathlib.Core.Path.{ap}
+use Prim.Native.Nat.{_-_}
 use lib.ListN.{length}
 use Rattle.show.proofs.words.point.Statement.{statement}
 use Rattle.show.proofs.words.point.Tie as tie
 
 abbrev Inv-loop : tie.InvT-loop
-Inv-loop text i₀ i = i ≤ length text
+Inv-loop text i₀ i = Walk (front noPoint) text i
 
 abbrev μ-loop : tie.MeasureT-loop
 μ-loop text i₀ i = length text - i
 
 loop-holds : tie.Need-loop-holds Inv-loop μ-loop
-loop-holds c = search needs
+loop-holds c = walk-first _ _
 
 shared-slice-read-if1 : tie.Need-shared-slice-read-if1 Inv-loop μ-loop
 shared-slice-read-if1 c = search needs
 
 returns : tie.Need-returns Inv-loop μ-loop
-returns c = search needs
+unfolding pointAt
+returns c = front-stop noPoint (c .before .before .before .loop .inv) (c .before .before .loop-test .taken) (ap not (eq-eqb _ _ (c .if1 .taken)))
 
 add-i : tie.Need-add-i Inv-loop μ-loop
 add-i c = search needs
@@ -26,10 +32,11 @@ loop-less : tie.Need-loop-less Inv-loop μ-loop
 loop-less c = search needs
 
 loop-again : tie.Need-loop-again Inv-loop μ-loop
-loop-again c = search needs
+loop-again c = front-next noPoint (c .before .before .before .loop .inv) (c .before .before .loop-test .taken) (ap not (ne-eqb _ _ (c .if1 .left)))
 
 returns-2 : tie.Need-returns-2 Inv-loop μ-loop
-returns-2 c = search needs
+unfolding pointAt
+returns-2 c = front-end noPoint (c .before .loop .inv) (c .loop-test .left)
 
 pub point-spec : {M : Type 1} → statement M
 point-spec =

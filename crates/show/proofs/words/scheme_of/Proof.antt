@@ -1,6 +1,9 @@
-use Prim.Native.Nat.{ℕ}
-use mathlib.Core.Path.{sym}
-use lib.Seq.{length-take-le}
+use Rattle.show.proofs.Decimals.{long-as}
+use Rattle.show.specs.Words.{precipitation, legacy, decimalOf, with-number, schemeOf}
+use Rattle.scale.specs.declared.physical.Scheme.the-variants as Scheme
+use Rattle.bytes.proofs.Walks.{part-rest}
+use denote.Ref.{now}
+use mathlib.Core.Path.{sym, ap, _∙_}
 use borrow.Author.Needs.{needs}
 use Rattle.show.proofs.words.scheme_of.Statement.{statement}
 use Rattle.show.proofs.words.scheme_of.Tie as tie
@@ -12,7 +15,8 @@ same-requires : tie.Need-same-requires
 same-requires c κs = search needs
 
 returns : tie.Need-returns
-returns c = search needs
+unfolding schemeOf
+returns c = rw (sym (c .before .same .ensures) ∙ c .if1 .taken)
 
 slice-aggregate-same-2 : tie.Need-slice-aggregate-same-2
 slice-aggregate-same-2 c = search needs
@@ -21,7 +25,8 @@ same-requires-2 : tie.Need-same-requires-2
 same-requires-2 c κs = search needs
 
 returns-2 : tie.Need-returns-2
-returns-2 c = search needs
+unfolding schemeOf
+returns-2 c = rw (sym (c .before .before .before .before .same .ensures) ∙ c .before .before .before .if1 .left, sym (c .before .same2 .ensures) ∙ c .if2 .taken)
 
 slice-aggregate-same-3 : tie.Need-slice-aggregate-same-3
 slice-aggregate-same-3 c = search needs
@@ -30,22 +35,20 @@ same-requires-3 : tie.Need-same-requires-3
 same-requires-3 c κs = search needs
 
 returns-3 : tie.Need-returns-3
-returns-3 c = search needs
+unfolding schemeOf
+returns-3 c = rw (sym (c .before .before .before .before .before .before .before .same .ensures) ∙ c .before .before .before .before .before .before .if1 .left, sym (c .before .before .before .before .same2 .ensures) ∙ c .before .before .before .if2 .left, sym (c .before .same3 .ensures) ∙ c .if3 .taken)
 
-slice-aggregate-same-4 : tie.Need-slice-aggregate-same-4
-slice-aggregate-same-4 c = sym (length-take-le {A = ℕ} 14 (c .before .before .before .before .before .before .before .before .before .before .before .before .args .word .now) (c .before .if4 .taken))
+slice-aggregate-starts-with : tie.Need-slice-aggregate-starts-with
+slice-aggregate-starts-with c = search needs
 
-slice-aggregate-same-5 : tie.Need-slice-aggregate-same-5
-slice-aggregate-same-5 c = search needs
-
-same-requires-4 : tie.Need-same-requires-4
-same-requires-4 c κs = search needs
+starts-with-requires : tie.Need-starts-with-requires
+starts-with-requires c κs = search needs
 
 sub-precipitation : tie.Need-sub-precipitation
-sub-precipitation c = search needs
+sub-precipitation c = search (needs, long-as precipitation (now (c .before .before .before .before .before .before .before .before .before .before .before .before .before .args .word)) (sym (c .before .starts-with .ensures) ∙ c .if4 .taken))
 
 part-precipitation-start : tie.Need-part-precipitation-start
-part-precipitation-start c = search needs
+part-precipitation-start c = search (needs, long-as precipitation (now (c .before .before .before .before .before .before .before .before .before .before .before .before .before .args .word)) (sym (c .before .starts-with .ensures) ∙ c .if4 .taken))
 
 part-precipitation-end : tie.Need-part-precipitation-end
 part-precipitation-end c = search needs
@@ -54,22 +57,20 @@ precipitation-requires : tie.Need-precipitation-requires
 precipitation-requires c κs = search needs
 
 returns-4 : tie.Need-returns-4
-returns-4 c = search needs
+unfolding schemeOf
+returns-4 c = rw (sym (c .before .before .before .before .before .before .before .before .before .before .before .before .same .ensures) ∙ c .before .before .before .before .before .before .before .before .before .before .before .if1 .left, sym (c .before .before .before .before .before .before .before .before .before .same2 .ensures) ∙ c .before .before .before .before .before .before .before .before .if2 .left, sym (c .before .before .before .before .before .before .same3 .ensures) ∙ c .before .before .before .before .before .if3 .left, sym (c .before .before .before .starts-with .ensures) ∙ c .before .before .if4 .taken) (c .precipitation .ensures ∙ ap (λ s. with-number Scheme.Precipitation (decimalOf s)) (part-rest (now (c .before .before .before .before .before .before .before .before .before .before .before .before .before .before .before .args .word)) 14))
 
-slice-aggregate-same-6 : tie.Need-slice-aggregate-same-6
-slice-aggregate-same-6 c = sym (length-take-le {A = ℕ} 7 (c .before .before .before .before .before .before .before .before .before .before .before .before .before .args .word .now) (c .before .if6 .taken))
+slice-aggregate-starts-with-2 : tie.Need-slice-aggregate-starts-with-2
+slice-aggregate-starts-with-2 c = search needs
 
-slice-aggregate-same-7 : tie.Need-slice-aggregate-same-7
-slice-aggregate-same-7 c = search needs
-
-same-requires-5 : tie.Need-same-requires-5
-same-requires-5 c κs = search needs
+starts-with-requires-2 : tie.Need-starts-with-requires-2
+starts-with-requires-2 c κs = search needs
 
 sub-legacy : tie.Need-sub-legacy
-sub-legacy c = search needs
+sub-legacy c = search (needs, long-as legacy (now (c .before .before .before .before .before .before .before .before .before .before .before .before .before .before .before .before .args .word)) (sym (c .before .starts-with2 .ensures) ∙ c .if5 .taken))
 
 part-legacy-start : tie.Need-part-legacy-start
-part-legacy-start c = search needs
+part-legacy-start c = search (needs, long-as legacy (now (c .before .before .before .before .before .before .before .before .before .before .before .before .before .before .before .before .args .word)) (sym (c .before .starts-with2 .ensures) ∙ c .if5 .taken))
 
 part-legacy-end : tie.Need-part-legacy-end
 part-legacy-end c = search needs
@@ -78,13 +79,12 @@ legacy-requires : tie.Need-legacy-requires
 legacy-requires c κs = search needs
 
 returns-5 : tie.Need-returns-5
-returns-5 c = search needs
+unfolding schemeOf
+returns-5 c = rw (sym (c .before .before .before .before .before .before .before .before .before .before .before .before .before .before .before .same .ensures) ∙ c .before .before .before .before .before .before .before .before .before .before .before .before .before .before .if1 .left, sym (c .before .before .before .before .before .before .before .before .before .before .before .before .same2 .ensures) ∙ c .before .before .before .before .before .before .before .before .before .before .before .if2 .left, sym (c .before .before .before .before .before .before .before .before .before .same3 .ensures) ∙ c .before .before .before .before .before .before .before .before .if3 .left, sym (c .before .before .before .before .before .before .starts-with .ensures) ∙ c .before .before .before .before .before .if4 .left, sym (c .before .before .before .starts-with2 .ensures) ∙ c .before .before .if5 .taken) (c .legacy .ensures ∙ ap (λ s. with-number Scheme.Legacy (decimalOf s)) (part-rest (now (c .before .before .before .before .before .before .before .before .before .before .before .before .before .before .before .before .before .before .args .word)) 7))
 
 returns-6 : tie.Need-returns-6
-returns-6 c = search needs
-
-returns-7 : tie.Need-returns-7
-returns-7 c = search needs
+unfolding schemeOf
+returns-6 c = rw (sym (c .before .before .before .before .before .before .before .before .before .before .before .before .before .same .ensures) ∙ c .before .before .before .before .before .before .before .before .before .before .before .before .if1 .left, sym (c .before .before .before .before .before .before .before .before .before .before .same2 .ensures) ∙ c .before .before .before .before .before .before .before .before .before .if2 .left, sym (c .before .before .before .before .before .before .before .same3 .ensures) ∙ c .before .before .before .before .before .before .if3 .left, sym (c .before .before .before .before .starts-with .ensures) ∙ c .before .before .before .if4 .left, sym (c .before .starts-with2 .ensures) ∙ c .if5 .left)
 
 pub scheme-of-spec : {M : Type 1} → statement M
 scheme-of-spec =
@@ -99,21 +99,18 @@ scheme-of-spec =
     slice-aggregate-same-3
     same-requires-3
     returns-3
-    slice-aggregate-same-4
-    slice-aggregate-same-5
-    same-requires-4
+    slice-aggregate-starts-with
+    starts-with-requires
     sub-precipitation
     part-precipitation-start
     part-precipitation-end
     precipitation-requires
     returns-4
-    slice-aggregate-same-6
-    slice-aggregate-same-7
-    same-requires-5
+    slice-aggregate-starts-with-2
+    starts-with-requires-2
     sub-legacy
     part-legacy-start
     part-legacy-end
     legacy-requires
     returns-5
-    returns-6
-    returns-7)
+    returns-6)

@@ -1,0 +1,33 @@
+-- Words and the schemes that they name. A number of these is the float nearest to it. Assumes nothing.
+use mathlib.Core.Path.{_≡_, refl}
+use mathlib.Core.List.{List, [], _∷_, _++_}
+use Prim.Native.Nat.{ℕ}
+use lib.Ieee.{div, ofInt}
+use Rattle.bytes.specs.Float.{f32}
+use Rattle.bytes.specs.Text.{same, leading}
+use Rattle.scale.specs.declared.physical.Scheme.the-variants as Scheme
+use Rattle.show.specs.declared.words.SchemeWord.the-variants as SchemeWord
+use Rattle.show.specs.Words.{numberFrom, pointAt, quotientOf, decimalOf, class, precipitation, legacy, schemeOf}
+
+pub class-named : schemeOf class ≡ SchemeWord.Value Scheme.Class
+unfolding schemeOf same
+class-named = refl
+
+-- precipitation:25.4
+pub inches : schemeOf (precipitation ++ (50 ∷ 53 ∷ 46 ∷ 52 ∷ [])) ≡ SchemeWord.Value (Scheme.Precipitation (f32 254 10))
+unfolding schemeOf same leading pointAt numberFrom quotientOf decimalOf f32 div ofInt
+inches = refl
+
+-- legacy:0.01
+pub hundredth : schemeOf (legacy ++ (48 ∷ 46 ∷ 48 ∷ 49 ∷ [])) ≡ SchemeWord.Value (Scheme.Legacy (f32 1 100))
+unfolding schemeOf same leading pointAt numberFrom quotientOf decimalOf f32 div ofInt
+hundredth = refl
+
+-- legacy:1. and legacy:.5
+pub no-fraction : schemeOf (legacy ++ (49 ∷ 46 ∷ [])) ≡ SchemeWord.BadNumber
+unfolding schemeOf same leading pointAt decimalOf
+no-fraction = refl
+
+pub no-whole : schemeOf (legacy ++ (46 ∷ 53 ∷ [])) ≡ SchemeWord.BadNumber
+unfolding schemeOf same leading pointAt decimalOf
+no-whole = refl
