@@ -32,7 +32,7 @@ fn read(
     };
     let scaling = head.scaling;
     let declared = scale::physical::declared_scale(scaling);
-    let terms = sweep::plan::terms_for(scheme, declared, codes.len());
+    let terms = sweep::plan::terms_for(scheme, scaling, declared, codes.len());
     let figures = match symbology::symbology::decode_for(body, terms, azimuths, codes) {
         FiguresRead::Value(f) => f,
         FiguresRead::Refused(e) => return SweepAnswer::Refused(e),
