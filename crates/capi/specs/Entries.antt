@@ -1,4 +1,4 @@
--- What the entries that take a kind, an item or an exact length have to say.
+-- What the entries that take a kind, an item, a scheme or an exact length have to say.
 use Prim.Native.Nat.{ℕ}
 use mathlib.Core.List.{List, [], _∷_}
 use mathlib.Core.Bool.{cond, _&&_}

@@ -1,13 +1,13 @@
 -- What follows once the scale fields of a scheme are read. Assumes nothing.
-use mathlib.Core.Path.{_≡_, refl, subst}
+use mathlib.Core.Path.{_≡_, subst}
 use mathlib.Core.List.{List, [], _∷_, map}
 use Prim.Native.Nat.{ℕ, _<_, _≤_}
-use native.Mathlib.Omega.{arith}
 use lib.ListN.{length}
 use borrow.Author.Tests.{lt-ltb, le-ltb}
 use Rattle.bytes.specs.Refusal.{Refusal, kind, buffer}
 use Rattle.bytes.specs.Result.{Result, accepted, refused, then}
 use Rattle.bytes.specs.declared.error.Buffer.the-variants as Buffer
+use Rattle.bytes.proofs.Results.{through, one-value}
 use Rattle.head.proofs.Fields.{field-inside}
 use Rattle.scale.specs.declared.physical.Scheme.{Scheme}
 use Rattle.scale.specs.declared.physical.Scheme.the-variants as Scheme
@@ -18,8 +18,7 @@ use Rattle.scale.specs.Physical.{scaleFields, valueOf, physicalOf, fillO
 
 -- where a value that is made of an answer is accepted, the answer was
 came : {A B : Type 0} (r : Result A) (f : A → B) {b : B} → then r (λ a. accepted (f a)) ≡ accepted b → (a : A) × (r ≡ accepted a) × (f a ≡ b)
-came (accepted a) f e = (a, refl, cc)
-came (refused x) f e = let z : _≡_ {A = ℕ} 0 1 = cc in absurd (omega arith)
+came r f {b} e = through r (λ a. accepted (f a)) b e λ a p q. (a, p, one-value q)
 
 -- the thresholds of a legacy scaling stand inside the file
 pub ready : (scheme : Scheme) (file : List ℕ) (block : ℕ) {v : Scaling} → scaleFields scheme file block ≡ accepted v → Ready v file

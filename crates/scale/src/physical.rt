@@ -107,7 +107,8 @@ pub fn declared_scale(v: Scaling) -> DeclaredScaleRead
 {
     match v {
         Scaling::Linear(s) => match crate::scaling::linear_declared_scale(s) {
-            crate::scaling::LinearDeclaredRead::Value(d) => DeclaredScaleRead::Value(Declared::Scale(d)),
+            crate::scaling::LinearDeclaredRead::Value(d) =>
+                DeclaredScaleRead::Value(Declared::Scale(d)),
             crate::scaling::LinearDeclaredRead::Refused(e) => DeclaredScaleRead::Refused(e),
         },
         Scaling::Precip(p) => {

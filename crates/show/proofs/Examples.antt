@@ -1,7 +1,6 @@
 -- Words and the schemes that they name. A number of these is the float nearest to it. Assumes nothing.
 use mathlib.Core.Path.{_≡_, refl}
-use mathlib.Core.List.{List, [], _∷_, _++_}
-use Prim.Native.Nat.{ℕ}
+use mathlib.Core.List.{[], _∷_, _++_}
 use lib.Ieee.{div, ofInt}
 use Rattle.bytes.specs.Float.{f32}
 use Rattle.bytes.specs.Text.{same, leading}

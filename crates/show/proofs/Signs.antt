@@ -1,12 +1,11 @@
--- Signed numbers that a test showed not to be negative, and floats that are no NaN. Assumes nothing.
-use mathlib.Core.Path.{_≡_, subst}
-use mathlib.Core.Bool.{false, not}
+-- Signed numbers that a test showed not to be negative. Assumes nothing.
+use mathlib.Core.Path.{_≡_}
+use mathlib.Core.Bool.{false}
 use Prim.Native.Nat.{ℕ}
 use native.Mathlib.Omega.{arith}
 use lib.Dec.{T}
 use lib.IntN.{ℤ, pos, negsuc, natAbs}
 use lib.Signed.{nonNeg, ltZ}
-use lib.Ieee.{Float, nan, inf, fin, ne, eq, isNan}
 use mir.Syntax.{w16, w32, w64}
 use mir.Val.{SFits, Fits}
 
@@ -21,10 +20,3 @@ not-negative {y} {z} known f t = rw known (fits z f (rw known at t))
 -- sixteen bits fit thirty-two
 pub wider : {y z : ℤ} → y ≡ z → SFits w16 z → SFits w32 y
 wider {y} {z} known f = rw known (record { sfits = omega (arith, f .sfits) })
-
--- a float that equals itself is no NaN
-pub no-nan : (x : Float) → ne x x ≡ false → T (not (isNan x))
-unfolding ne eq isNan
-no-nan nan h = absurd (subst T h tt)
-no-nan (inf s) h = tt
-no-nan (fin s m e) h = tt

@@ -29,7 +29,7 @@ use Rattle.sweep.specs.Sweep.{Accepted, sweepOf}
 use Rattle.sweep.specs.Demand3.{rowAt, Damaged, LowestBad, Names, Refuses, AllMake, Kept, Demand3}
 use Rattle.symbology.proofs.RowPlaces.{row-here}
 use Rattle.sweep.proofs.RowLaws.{row-values}
-use Rattle.symbology.proofs.ResultLaws.{clash}
+use Rattle.bytes.proofs.Results.{clash}
 use Rattle.sweep.proofs.Parts.{block-start, with-codes, Parts, parts}
 use Rattle.sweep.proofs.Lowest.{lowest-bad}
 

@@ -11,7 +11,7 @@ use Rattle.bytes.specs.Result.{Result, accepted, refused}
 use Rattle.symbology.specs.Damage.{Changed, MakesRow, rowIn, radialAt}
 use Rattle.symbology.specs.Symbology.{symbology}
 use Rattle.sweep.specs.Demand3.{LowestBad}
-use Rattle.symbology.proofs.ResultLaws.{clash}
+use Rattle.bytes.proofs.Results.{clash}
 
 -- the first number that has P, and it is below n
 abbrev First : (ℕ → Type 0) → ℕ → Type 0

@@ -17,7 +17,7 @@ use Rattle.symbology.specs.Symbology as Symbology
 use Rattle.symbology.specs.Symbology.{symbology}
 use Rattle.sweep.specs.declared.plan.Head.{Head}
 use Rattle.sweep.specs.Sweep.{headOf, allowed, roomFor, Accepted, finish, sweepOf}
-use Rattle.symbology.proofs.ResultLaws.{one-value, through, passed}
+use Rattle.bytes.proofs.Results.{one-value, through, passed}
 use Rattle.symbology.proofs.RowPlaces.{codes-long}
 use Rattle.symbology.proofs.Centres.{centred}
 

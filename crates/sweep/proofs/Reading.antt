@@ -31,7 +31,7 @@ use Rattle.symbology.specs.declared.figures.Packet.the-variants.{Packet16, Pack
 use Rattle.symbology.specs.declared.figures.Terms.{Terms}
 use Rattle.sweep.specs.declared.plan.Head.{Head}
 use Rattle.sweep.specs.declared.sweep.Sweep.{Sweep}
-use Rattle.symbology.proofs.ResultLaws.{clash, one-value, through, passed}
+use Rattle.bytes.proofs.Results.{clash, one-value, through, passed}
 use Rattle.sweep.proofs.Parts.{block-start}
 use Rattle.symbology.proofs.RowPlaces.{codes-long}
 use Rattle.sweep.specs.Sweep.{headOf, allowed, roomFor, Accepted, finish, sweepOf, sweepIn, stepCheck, termsFor}

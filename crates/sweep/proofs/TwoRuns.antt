@@ -14,7 +14,7 @@ use Rattle.sweep.specs.declared.sweep.SweepAnswer.the-variants as SweepA
 use Rattle.sweep.specs.Sweep.{Accepted, sweepOf, answerOf}
 use Rattle.sweep.specs.Demand3.{rowAt, Damaged, Refuses, RowsKept, Kept, Buffers, readInto, Ran, SameLengths, TwoRuns}
 use Rattle.sweep.proofs.RowLaws.{row-front}
-use Rattle.symbology.proofs.ResultLaws.{clash, through}
+use Rattle.bytes.proofs.Results.{clash, through}
 use Rattle.sweep.proofs.Parts.{sizes}
 use Rattle.sweep.proofs.Demand3.{demand3}
 

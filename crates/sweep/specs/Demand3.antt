@@ -42,8 +42,8 @@ pub record LowestBad (n : ℕ) (b b' : List ℕ) (r : ℕ) : Type 0 where
   pub lower : (q : ℕ) → q < r → Changed symbology b b' q → MakesRow symbology b b' q
 
 -- the first gate whose integer is not from 0 to 65,535
-abbrev pub firstGate : List ℕ → ℕ
-firstGate bytes = leading isLevel (words bytes)
+abbrev pub firstBadGate : List ℕ → ℕ
+firstBadGate bytes = leading isLevel (words bytes)
 
 -- x names radial r, whose data make no row, with the figure worked out from those data: 22 with the greatest sum of a prefix of the run
 -- lengths that is not over bins; 34 with the first gate outside 0 to 65,535, and its integer. In packet 16 data always make a row
@@ -51,7 +51,7 @@ unfoldable pub Names : Packet → ℕ → ℕ → List ℕ → Refusal → Type 
 Names Packet16 bins r bytes x = ⊥
 Names PacketAf1f bins r bytes x = x ≡ kind 22 (nat r ∷ nat (reach bins bytes) ∷ nat bins ∷ [])
 Names Packet28 bins r bytes x =
-    x ≡ kind 34 (nat r ∷ nat (firstGate bytes) ∷ whole (signed 2147483648 (getD (words bytes) (firstGate bytes) 0)) ∷ [])
+    x ≡ kind 34 (nat r ∷ nat (firstBadGate bytes) ∷ whole (signed 2147483648 (getD (words bytes) (firstBadGate bytes) 0)) ∷ [])
 
 -- When a second body b' is refused, and how. The first, b, has the figures f; `result` is what the second gives.
 pub record Refuses {A : Type 0} (f : Figures) (b b' : List ℕ) (result : Result A) : Type 0 where

@@ -12,7 +12,7 @@ use Rattle.bytes.specs.Bytes.{u16At, u32At}
 use Rattle.bytes.specs.Refusal.{Refusal}
 use Rattle.bytes.specs.Result.{Result, accepted, refused}
 use Rattle.bytes.specs.Reading.{Read, give, stop, left, skip, number, data-row, within, Width, half, word, size, valueAt, Given, more, after-row, run, Frame, frames, Unread}
-use Rattle.symbology.proofs.ResultLaws.{clash}
+use Rattle.bytes.proofs.Results.{clash}
 use Rattle.symbology.specs.Damage.{noFrame, rowIn, dataIn, DataByte, radialCount, radialAt, Damage, Changed, MakesRow, Contained}
 
 -- ---- the two halves of a reading: what its structure gives, and the rows

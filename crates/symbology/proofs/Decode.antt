@@ -22,7 +22,7 @@ use Rattle.symbology.specs.declared.figures.Figures.{Figures}
 use Rattle.symbology.specs.declared.figures.Terms.{Terms}
 use Rattle.symbology.specs.declared.figures.StepCheck.{StepCheck}
 use Rattle.symbology.specs.declared.figures.StepCheck.the-variants as StepCheck
-use Rattle.symbology.proofs.ResultLaws.{through, passed}
+use Rattle.bytes.proofs.Results.{through, passed}
 use Rattle.symbology.specs.declared.spans.BodyPlan.{BodyPlan}
 use Rattle.symbology.specs.declared.spans.BodyPlan.the-variants as BodyPlan
 

@@ -14,7 +14,7 @@ use Rattle.symbology.specs.Rows.{runOf, colourOf, reach, cells, row16, r
 use Rattle.symbology.specs.Places.{Enough}
 use Rattle.symbology.specs.declared.figures.Packet.{Packet}
 use Rattle.symbology.specs.declared.figures.Packet.the-variants.{Packet16, PacketAf1f, Packet28}
-use Rattle.symbology.proofs.ResultLaws.{passed}
+use Rattle.bytes.proofs.Results.{passed}
 use Rattle.symbology.proofs.RowWords.{words-length}
 use Rattle.symbology.proofs.FirstBad.{levels-are}
 

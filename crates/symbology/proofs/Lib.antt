@@ -1,4 +1,3 @@
-pub mod ResultLaws
 pub mod RowWords
 pub mod Every
 pub mod FirstBad

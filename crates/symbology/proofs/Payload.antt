@@ -22,7 +22,7 @@ use Rattle.xdr.proofs.Plains.{plain-pass, plain-int, plain-float, plain-string,
 use Rattle.symbology.specs.Symbology.{Sweep, productBlock, xdrRadials, Gates28, componentHead, component, only, payload}
 use Rattle.symbology.specs.Walk.{anyWalk, onlyWhole, listed, position, sweepFrom, Planned, Plans}
 use Rattle.symbology.specs.declared.figures.Figures.{Figures}
-use Rattle.symbology.proofs.ResultLaws.{one-value}
+use Rattle.bytes.proofs.Results.{one-value}
 use Rattle.symbology.specs.declared.spans.PlanRead.{PlanRead}
 use Rattle.symbology.specs.declared.spans.PlanRead.the-variants as PlanRead
 

@@ -1,4 +1,4 @@
-use Rattle.replay.proofs.Laws.{no-nan}
+use Rattle.bytes.proofs.Patterns.{no-nan}
 use borrow.Author.Needs.{needs}
 use Rattle.replay.proofs.print.single.Statement.{statement}
 use Rattle.replay.proofs.print.single.Tie as tie

@@ -1,4 +1,4 @@
-use native.Mathlib.Nat.{mod-lt, zero-add, zero-lt-suc}
+use native.Mathlib.Nat.{zero-add}
 use mathlib.Core.Path.{_∙_}
 use borrow.Author.Needs.{needs}
 use Rattle.bytes.proofs.Counted.{counted}
