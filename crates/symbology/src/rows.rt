@@ -116,9 +116,8 @@ fn fill(part: &mut [u16], v: u16)
     }
 }
 
-// v at the first 16 places of the part, or at all where there are fewer. The caller needs n of them: a block is stored whole.
-fn spread(part: &mut [u16], n: usize, v: u16)
-    requires { ⌜ (n ≤ 16) × (n ≤ length (now part)) ⌝ }
+// v at the first 16 places of the part, or at all where there are fewer. No run is longer, and a block is stored whole.
+fn spread(part: &mut [u16], v: u16)
     ensures { λ _. ⌜ now (part .exit) ≡ replicate (min 16 (length (now (part .entry)))) v ++ drop 16 (now (part .entry)) ⌝ }
 {
     if part.len() < 16 {
@@ -149,7 +148,7 @@ fn write_runs(runs: &[u8], row: &mut [u16])
         if row.len() - gate < run {
             return;
         }
-        spread(&mut row[gate..], run, colour_of(b));
+        spread(&mut row[gate..], colour_of(b));
         gate += run;
         i += 1;
     }
