@@ -2,8 +2,9 @@
 //!
 //!     bench [--rounds N]
 //!
-//! Runs are interleaved: each round times the Rust, the port and a plain copy of the output arrays once. The port writes into
-//! buffers that are not cleared in between; the Rust allocates its arrays, as it always does.
+//! Runs are interleaved: each round times the Rust and the port once. A plain copy of the output arrays has rounds of its own, since
+//! its arrays would push those of the two out of the caches. The port writes into buffers that are not cleared in between; the Rust
+//! allocates its arrays, as it always does.
 use lines::{Answer, Case, Lent, Packet, Scheme};
 use oracle::make::{body, generic, Rng};
 use oracle::port::{Entries, Port, Timed};
@@ -94,12 +95,17 @@ impl Job<'_> {
         }
     }
 
-    fn row(&self, reading: &str, rust: impl FnMut(), port: impl FnMut(), copy: impl FnMut()) {
-        let mut timers = [Timer::new(rust), Timer::new(port), Timer::new(copy)];
+    /// Each round times every one once.
+    fn medians<const N: usize>(&self, mut timers: [Timer; N]) -> [f64; N] {
         for _ in 0..self.rounds {
             timers.iter_mut().for_each(Timer::round);
         }
-        let [rust, port, copy] = timers.map(Timer::median);
+        timers.map(Timer::median)
+    }
+
+    fn row(&self, reading: &str, rust: impl FnMut(), port: impl FnMut(), copy: impl FnMut()) {
+        let [rust, port] = self.medians([Timer::new(rust), Timer::new(port)]);
+        let [copy] = self.medians([Timer::new(copy)]);
         println!(
             "| {} | {reading} | {rust:.1} | {port:.1} | {:.2} | {copy:.1} | {:.2} |",
             self.name,
