@@ -13,7 +13,8 @@
  *
  * The report: the first 16 places of ints and the first 8 of floats are written, and later places are left as they are. After a
  * refusal ints has its whole numbers in the table's order and floats its float, from place 0 on. Otherwise they have what stands below.
- * Places of which nothing is said hold 0. A number that takes all 64 bits (the index in refusal 3) stands in ints as its bits.
+ * Places of which nothing is said hold 0. A number that takes all 64 bits (the index in refusal 3, the position of l3_xdr) stands in
+ * ints as its bits.
  *   items in refusal 23    0 int, 1 uint, 2 float, 3 string body, 4 padding, 5 array body, 6 packet body
  *   buffers in refusal 36  0 azimuths, 1 codes, 2 physical
  *
