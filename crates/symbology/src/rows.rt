@@ -11,7 +11,7 @@ ghost use lib.ListN.{length, getD, take, drop, replicate};
 ghost use Rattle.bytes.specs.Bytes.{u16At};
 ghost use Rattle.bytes.specs.Result.{accepted, then};
 ghost use Rattle.bytes.specs.Text.{all, leading};
-ghost use Rattle.symbology.specs.Rows.{colourOf, reach, cells, rowAF1F, words, isLevel, levels, rowOf, codesOf, FullRow};
+ghost use Rattle.symbology.specs.Rows.{reach, cells, rowAF1F, words, isLevel, levels, rowOf, codesOf, FullRow};
 ghost use Rattle.symbology.specs.Answers.{checkOf};
 
 // Whether the data make a row: always in packet 16; in AF1F 22, in packet 28 34.
@@ -127,19 +127,13 @@ fn spread(part: &mut [u16], v: u16)
     }
 }
 
-// The low four bits, from a table: of a number that is known to come from one byte the compiler makes a block in more steps.
-fn colour_of(b: usize) -> u16
-    ensures { λ r. ⌜ r ≡ colourOf b ⌝ }
-{
-    let colours = [0u16, 1, 2, 3, 4, 5, 6, 7, 8, 9, 10, 11, 12, 13, 14, 15];
-    colours[b % 16]
-}
-
-// The runs' cells into the row, which they are known to fill.
+// The runs' cells into the row, which they are known to fill. Colours come from a table: of a number that is known to be one of a byte
+// the compiler makes a block in more steps.
 fn write_runs(runs: &[u8], row: &mut [u16])
     requires { ⌜ reach (length (now row)) (now runs) ≡ length (now row) ⌝ }
     ensures { λ _. ⌜ now (row .exit) ≡ take (length (now (row .entry))) (cells (now (runs .entry))) ⌝ }
 {
+    let colours = [0u16, 1, 2, 3, 4, 5, 6, 7, 8, 9, 10, 11, 12, 13, 14, 15];
     let mut gate: usize = 0;
     let mut i: usize = 0;
     while i < runs.len() {
@@ -148,7 +142,7 @@ fn write_runs(runs: &[u8], row: &mut [u16])
         if row.len() - gate < run {
             return;
         }
-        spread(&mut row[gate..], colour_of(b));
+        spread(&mut row[gate..], colours[b % 16]);
         gate += run;
         i += 1;
     }

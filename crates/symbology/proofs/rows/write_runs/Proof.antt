@@ -1,4 +1,7 @@
 use native.Mathlib.Omega.{arith}
+use native.Mathlib.Nat.{zero-add}
+use mathlib.Core.Path.{_∙_}
+use Rattle.bytes.proofs.Counted.{counted}
 use borrow.Author.Needs.{needs}
 use Prim.Native.Nat.{_-_}
 use lib.ListN.{length}
@@ -7,10 +10,10 @@ use Rattle.symbology.proofs.rows.write_runs.Statement.{statement}
 use Rattle.symbology.proofs.rows.write_runs.Tie as tie
 
 abbrev Inv-loop : tie.InvT-loop
-Inv-loop runs row₀ gate₀ i₀ row gate i = Painted runs row₀ row i gate
+Inv-loop runs row₀ colours gate₀ i₀ row gate i = Painted runs row₀ row i gate
 
 abbrev μ-loop : tie.MeasureT-loop
-μ-loop runs row₀ gate₀ i₀ row gate i = length runs - i
+μ-loop runs row₀ colours gate₀ i₀ row gate i = length runs - i
 
 loop-holds : tie.Need-loop-holds Inv-loop μ-loop
 loop-holds c = painted-first _ _
@@ -42,8 +45,11 @@ part-spread-start c = search needs
 part-spread-end : tie.Need-part-spread-end Inv-loop μ-loop
 part-spread-end c = search needs
 
-colour-of-requires : tie.Need-colour-of-requires Inv-loop μ-loop
-colour-of-requires c κs = search needs
+mul-spread-2 : tie.Need-mul-spread-2 Inv-loop μ-loop
+mul-spread-2 c = search needs
+
+array-read-spread : tie.Need-array-read-spread Inv-loop μ-loop
+array-read-spread c = search needs
 
 spread-requires : tie.Need-spread-requires Inv-loop μ-loop
 spread-requires c κs = search needs
@@ -58,7 +64,7 @@ loop-less : tie.Need-loop-less Inv-loop μ-loop
 loop-less c = search needs
 
 loop-again : tie.Need-loop-again Inv-loop μ-loop
-loop-again c = painted-turn (c .before .before .before .before .before .before .before .before .before .before .before .pre) (c .before .before .before .before .before .before .before .before .loop .inv) (omega arith) (c .before .before .before .before .before .before .byte .ensures .0) _ (search needs) (c .before .before .before .before .before .if1 .left) (search needs) (c .before .before .before .colour-of .ensures) (c .before .before .spread .ensures)
+loop-again c = painted-turn (c .before .before .before .before .before .before .before .before .before .before .pre) (c .before .before .before .before .before .before .before .loop .inv) (omega arith) (c .before .before .before .before .before .byte .ensures .0) _ (search needs) (c .before .before .before .before .if1 .left) (search needs) (counted (λ n. n) 0 16 0 _ (search needs) ∙ zero-add _) (c .before .before .spread .ensures)
 
 same-length-2 : tie.Need-same-length-2 Inv-loop μ-loop
 same-length-2 c = search needs
@@ -82,7 +88,8 @@ write-runs-spec =
     sub-spread
     part-spread-start
     part-spread-end
-    colour-of-requires
+    mul-spread-2
+    array-read-spread
     spread-requires
     add-gate
     add-i
