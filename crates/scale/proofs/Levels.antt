@@ -2,35 +2,54 @@
 use mathlib.Core.Path.{_≡_, refl, sym, ap, _∙_}
 use mathlib.Core.Bool.{Bool, true, false, cond, _&&_, and-assoc, and-true}
 use mathlib.Core.List.{List, [], _∷_, map}
-use Prim.Native.Nat.{ℕ, zero, suc, _+_, _≤_, _<_}
+use Prim.Native.Nat.{ℕ, zero, suc, _+_, _*_, _≤_, _<_}
 use native.Mathlib.Numerals.{add-one}
 use native.Mathlib.Nat.{not-suc-le-zero, le-of-suc-le-suc, zero-add}
 use native.Mathlib.Omega.{arith}
+use lib.IntN.{pos}
 use lib.Dec.{ltb}
 use lib.ListN.{length, getD, drop}
-use lib.Ieee.{Float, nan}
+use lib.Ieee.{Float, nan, mul}
 use borrow.Author.Tests.{ltb-true, ltb-false, lt-ltb, le-ltb}
 use lib.Bits.{bitOr, and-le-l, and-le-r, or-lt, or-add-and}
 use lib.Seq.{drop-cons, drop-length}
+use Rattle.bytes.specs.Float.{whole32, _⊗_}
 use Rattle.bytes.specs.Text.{all}
 use Rattle.bytes.proofs.Codes.{both}
 use Rattle.bytes.proofs.Counted.{counted}
-use Rattle.scale.specs.Legacy.{levelAt, levelsOf, sixteen}
-use Rattle.scale.specs.Physical.{hasLevel, levelOf, valueOf}
+use Rattle.scale.specs.Legacy.{has, signOf, scaleOf, levelAt, unscaledAt, unscaledLevels, sixteen}
+use Rattle.scale.specs.Physical.{hasLevel, levelOf, scaledLevelOf, valueOf}
 use Rattle.scale.specs.declared.physical.Scaling.the-variants as Scaling
 
 pub sixteen-at : {A : Type 0} (f : ℕ → A) (z : A) (k : ℕ) → k < 16 → getD (map f sixteen) k z ≡ f k
 sixteen-at f z k h = counted f z 16 0 k h ∙ ap f (zero-add k)
 
+-- a level is the product, NaN too
+pub nan-times : (post : Float) → nan ⊗ post ≡ nan
+unfolding mul
+nan-times post = refl
+
+pub scaled-at : (t : List ℕ) (at : ℕ) (post : Float) (k : ℕ) → unscaledAt t at k ⊗ post ≡ levelAt t at post k
+unfolding unscaledAt levelAt
+scaled-at t at post k = go (has (getD t (at + 2 * k) 0) 0x80)
+  where
+    x : Float
+    x = whole32 (pos (getD t (at + 2 * k + 1) 0)) ⊗ signOf (getD t (at + 2 * k) 0) ⊗ scaleOf (getD t (at + 2 * k) 0)
+
+    go : (b : Bool) → cond b nan x ⊗ post ≡ cond b nan (x ⊗ post)
+    go true = nan-times post
+    go false = refl
+
 -- a table of the levels values codes as the legacy scheme does
-pub levels-value : (t : List ℕ) (at : ℕ) (post : Float) → levelOf (levelsOf t at post) ≡ valueOf (Scaling.Legacy at post) t
-unfolding levelsOf valueOf
-levels-value t at post = λ i code. go code (ltb code 16) refl i
+pub levels-value : (t : List ℕ) (at : ℕ) (post : Float) {table : List Float} → table ≡ unscaledLevels t at
+    → scaledLevelOf table post ≡ valueOf (Scaling.Legacy at post) t
+unfolding unscaledLevels valueOf
+levels-value t at post e = ap (λ (l : List Float). scaledLevelOf l post) e ∙ λ i code. go code (ltb code 16) refl i
   where
     go : (code : ℕ) (b : Bool) → ltb code 16 ≡ b
-        → cond b (getD (map (levelAt t at post) sixteen) code nan) nan ≡ cond b (levelAt t at post code) nan
-    go code true u = sixteen-at (levelAt t at post) nan code (ltb-true code 16 u)
-    go code false u = refl
+        → cond b (getD (map (unscaledAt t at) sixteen) code nan) nan ⊗ post ≡ cond b (levelAt t at post code) nan
+    go code true u = ap (λ (x : Float). x ⊗ post) (sixteen-at (unscaledAt t at) nan code (ltb-true code 16 u)) ∙ scaled-at t at post code
+    go code false u = nan-times post
 
 -- ---- all codes at once
 

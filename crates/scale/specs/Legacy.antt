@@ -34,6 +34,16 @@ levelAt t at post k = legacyLevel (getD t (at + 2 * k) 0) (getD t (at + 2 * k + 
 abbrev pub sixteen : List ℕ
 sixteen = 0 ∷ 1 ∷ 2 ∷ 3 ∷ 4 ∷ 5 ∷ 6 ∷ 7 ∷ 8 ∷ 9 ∷ 10 ∷ 11 ∷ 12 ∷ 13 ∷ 14 ∷ 15 ∷ []
 
+-- the same before the post-scale
+abbrev pub unscaledLevel : ℕ → ℕ → Float
+unscaledLevel flag value = cond (has flag 0x80) nan (whole32 (pos value) ⊗ signOf flag ⊗ scaleOf flag)
+
+unfoldable pub unscaledAt : List ℕ → ℕ → ℕ → Float
+unscaledAt t at k = unscaledLevel (getD t (at + 2 * k) 0) (getD t (at + 2 * k + 1) 0)
+
 -- the sixteen levels
 unfoldable pub levelsOf : List ℕ → ℕ → Float → List Float
 levelsOf t at post = map (levelAt t at post) sixteen
+
+unfoldable pub unscaledLevels : List ℕ → ℕ → List Float
+unscaledLevels t at = map (unscaledAt t at) sixteen

@@ -64,6 +64,10 @@ hasLevel code = ltb code 16
 abbrev pub levelOf : List Float → ℕ → Float
 levelOf levels code = cond (hasLevel code) (getD levels code nan) nan
 
+-- the same of levels that are still to be multiplied
+abbrev pub scaledLevelOf : List Float → Float → ℕ → Float
+scaledLevelOf unscaled post code = levelOf unscaled code ⊗ post
+
 -- the value of a code once the scale fields are read. Halfword and float: codes below 2 are NaN
 unfoldable pub valueOf : Scaling → List ℕ → ℕ → Float
 valueOf (Scaling.Linear s) file code = openValue (s .«value_min») (s .«value_increment») 2 code

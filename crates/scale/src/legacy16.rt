@@ -2,7 +2,7 @@
 ghost use mathlib.Core.Path.{_≡_};
 ghost use Prim.Native.Nat.{_+_, _≤_};
 ghost use lib.ListN.{length};
-ghost use Rattle.scale.specs.Legacy.{signOf, scaleOf, legacyLevel, levelsOf};
+ghost use Rattle.scale.specs.Legacy.{signOf, scaleOf, unscaledLevel, unscaledLevels, levelsOf};
 
 fn sign_of(flag: u8) -> f32
     ensures { λ r. ⌜ r ≡ signOf flag ⌝ }
@@ -29,26 +29,26 @@ fn scale_of(flag: u8) -> f32
     1.0f32
 }
 
-// The level of one flag and value.
-pub fn legacy_level(flag: u8, value: u8, post_scale: f32) -> f32
-    ensures { λ r. ⌜ r ≡ legacyLevel flag value «post_scale» ⌝ }
+// The level of one flag and value, not yet multiplied by the post-scale.
+fn unscaled_level(flag: u8, value: u8) -> f32
+    ensures { λ r. ⌜ r ≡ unscaledLevel flag value ⌝ }
 {
     if flag / 0x80 % 2 == 1 {
         bytes::float::nan32()
     } else {
-        value as f32 * sign_of(flag) * scale_of(flag) * post_scale
+        value as f32 * sign_of(flag) * scale_of(flag)
     }
 }
 
-// The levels of the 32 bytes from place `at` on.
-pub(crate) fn levels_at(t: &[u8], at: usize, post_scale: f32) -> [f32; 16]
+// The levels of the 32 bytes from place `at` on, not yet multiplied.
+pub(crate) fn unscaled_levels(t: &[u8], at: usize) -> [f32; 16]
     requires { ⌜ at + 32 ≤ length (now t) ⌝ }
-    ensures { λ r. ⌜ r ≡ levelsOf (now (t .entry)) at «post_scale» ⌝ }
+    ensures { λ r. ⌜ r ≡ unscaledLevels (now (t .entry)) at ⌝ }
 {
     let mut levels = [0.0f32; 16];
     let mut k = 0usize;
     while k < 16 {
-        levels[k] = legacy_level(t[at + 2 * k], t[at + 2 * k + 1], post_scale);
+        levels[k] = unscaled_level(t[at + 2 * k], t[at + 2 * k + 1]);
         k += 1usize;
     }
     levels
@@ -57,5 +57,12 @@ pub(crate) fn levels_at(t: &[u8], at: usize, post_scale: f32) -> [f32; 16]
 pub fn decode_legacy16(threshold_data: &[u8; 32], post_scale: f32) -> [f32; 16]
     ensures { λ r. ⌜ r ≡ levelsOf (now («threshold_data» .entry)) 0 «post_scale» ⌝ }
 {
-    levels_at(threshold_data, 0, post_scale)
+    let unscaled = unscaled_levels(threshold_data, 0);
+    let mut levels = [0.0f32; 16];
+    let mut k = 0usize;
+    while k < 16 {
+        levels[k] = unscaled[k] * post_scale;
+        k += 1usize;
+    }
+    levels
 }

@@ -7,8 +7,8 @@ use bytes::error::Buffer;
 use bytes::error::Level3DecodeError;
 ghost use mathlib.Core.Path.{_≡_};
 ghost use mathlib.Core.Bool.{true, cond};
-ghost use Prim.Native.Nat.{_-_, _≤_};
-ghost use lib.ListN.{length};
+ghost use Prim.Native.Nat.{_-_, _≤_, _<_};
+ghost use lib.ListN.{length, getD};
 ghost use lib.IntN.{pos};
 ghost use lib.Dec.{ltb};
 ghost use lib.Ieee.{nan};
@@ -16,7 +16,7 @@ ghost use Rattle.bytes.specs.Float.{whole32, f32};
 ghost use Rattle.bytes.specs.Text.{all};
 ghost use Rattle.bytes.specs.Result.{accepted, then, lent};
 ghost use Rattle.scale.specs.Pdb.{thresholdPlace};
-ghost use Rattle.scale.specs.Physical.{openValue, cappedValue, classValue, hasLevel, levelOf, precipValue, valueOf, filled, scaleFields, declaredScale, fillOf, Ready};
+ghost use Rattle.scale.specs.Physical.{openValue, cappedValue, classValue, hasLevel, levelOf, scaledLevelOf, precipValue, valueOf, filled, scaleFields, declaredScale, fillOf, Ready};
 ghost use Rattle.scale.specs.Outcome.{linearOf, precipOf, scalingOf, declaredScaleOf, filledOf};
 
 // How raw codes are coded.
@@ -250,36 +250,57 @@ fn have_levels(codes: &[u16]) -> bool
     bits < 16
 }
 
-fn fill_known_levels(levels: &[f32; 16], codes: &[u16], physical: &mut [f32])
+// The value of code i, where every code has a level.
+fn known_level(unscaled: &[f32; 16], post_scale: f32, codes: &[u16], i: usize) -> f32
+    requires { ⌜ (all hasLevel (now codes) ≡ true) × (i < length (now codes)) ⌝ }
+    ensures { λ r. ⌜ r ≡ scaledLevelOf (now (unscaled .entry)) «post_scale» (getD (now (codes .entry)) i 0) ⌝ }
+{
+    unscaled[codes[i] as usize] * post_scale
+}
+
+// Four codes at a time: the compiler then puts four products together and stores them at once. With the post-scale in the table it would
+// store each value alone.
+fn fill_known_levels(unscaled: &[f32; 16], post_scale: f32, codes: &[u16], physical: &mut [f32])
     requires { ⌜ (all hasLevel (now codes) ≡ true) × (length (now codes) ≤ length (now physical)) ⌝ }
-    ensures { λ _. ⌜ now (physical .exit) ≡ filled (levelOf (now (levels .entry))) (now (codes .entry)) (now (physical .entry)) ⌝ }
+    ensures { λ _. ⌜ now (physical .exit) ≡ filled (scaledLevelOf (now (unscaled .entry)) «post_scale») (now (codes .entry)) (now (physical .entry)) ⌝ }
 {
     let mut i = 0usize;
+    while codes.len() - i >= 4 {
+        let a = known_level(unscaled, post_scale, codes, i);
+        let b = known_level(unscaled, post_scale, codes, i + 1);
+        let c = known_level(unscaled, post_scale, codes, i + 2);
+        let d = known_level(unscaled, post_scale, codes, i + 3);
+        physical[i] = a;
+        physical[i + 1] = b;
+        physical[i + 2] = c;
+        physical[i + 3] = d;
+        i += 4usize;
+    }
     while i < codes.len() {
-        physical[i] = levels[codes[i] as usize];
+        physical[i] = known_level(unscaled, post_scale, codes, i);
         i += 1usize;
     }
 }
 
-fn fill_any_levels(levels: &[f32; 16], codes: &[u16], physical: &mut [f32])
+fn fill_any_levels(unscaled: &[f32; 16], post_scale: f32, codes: &[u16], physical: &mut [f32])
     requires { ⌜ length (now codes) ≤ length (now physical) ⌝ }
-    ensures { λ _. ⌜ now (physical .exit) ≡ filled (levelOf (now (levels .entry))) (now (codes .entry)) (now (physical .entry)) ⌝ }
+    ensures { λ _. ⌜ now (physical .exit) ≡ filled (scaledLevelOf (now (unscaled .entry)) «post_scale») (now (codes .entry)) (now (physical .entry)) ⌝ }
 {
     let mut i = 0usize;
     while i < codes.len() {
-        physical[i] = level_of(levels, codes[i]);
+        physical[i] = level_of(unscaled, codes[i]) * post_scale;
         i += 1usize;
     }
 }
 
-fn fill_levels(levels: &[f32; 16], codes: &[u16], physical: &mut [f32])
+fn fill_levels(unscaled: &[f32; 16], post_scale: f32, codes: &[u16], physical: &mut [f32])
     requires { ⌜ length (now codes) ≤ length (now physical) ⌝ }
-    ensures { λ _. ⌜ now (physical .exit) ≡ filled (levelOf (now (levels .entry))) (now (codes .entry)) (now (physical .entry)) ⌝ }
+    ensures { λ _. ⌜ now (physical .exit) ≡ filled (scaledLevelOf (now (unscaled .entry)) «post_scale») (now (codes .entry)) (now (physical .entry)) ⌝ }
 {
     if have_levels(codes) {
-        fill_known_levels(levels, codes, physical);
+        fill_known_levels(unscaled, post_scale, codes, physical);
     } else {
-        fill_any_levels(levels, codes, physical);
+        fill_any_levels(unscaled, post_scale, codes, physical);
     }
 }
 
@@ -339,8 +360,8 @@ fn fill(v: Scaling, file: &[u8], codes: &[u16], physical: &mut [f32])
             fill_precip(p, codes, physical);
         }
         Scaling::Legacy { at, post_scale } => {
-            let levels = crate::legacy16::levels_at(file, at, post_scale);
-            fill_levels(&levels, codes, physical);
+            let unscaled = crate::legacy16::unscaled_levels(file, at);
+            fill_levels(&unscaled, post_scale, codes, physical);
         }
         Scaling::Class => {
             fill_class(codes, physical);

@@ -1,5 +1,5 @@
 use Rattle.scale.proofs.Levels.{levels-value}
-use Rattle.scale.specs.Physical.{valueOf, levelOf, filled}
+use Rattle.scale.specs.Physical.{valueOf, filled}
 use mathlib.Core.Path.{_∙_, ap}
 use denote.Ref.{now}
 use borrow.Author.Needs.{needs}
@@ -21,8 +21,8 @@ fill-precip-requires c κs = search needs
 enum-known-v-3 : tie.Need-enum-known-v-3
 enum-known-v-3 c = search needs
 
-levels-at-requires : tie.Need-levels-at-requires
-levels-at-requires c κs = rw (c .before .v3 .given .1) at (c .before .before .before .before .before .before .pre .0)
+unscaled-levels-requires : tie.Need-unscaled-levels-requires
+unscaled-levels-requires c κs = rw (c .before .v3 .given .1) at (c .before .before .before .before .before .before .pre .0)
 
 fill-levels-requires : tie.Need-fill-levels-requires
 fill-levels-requires c κs = search needs
@@ -58,7 +58,7 @@ returns-3 c =
     rw (at .before .before .v3 .given .1)
     (c .before .before .fill-levels .ensures
     ∙ ap (λ f. filled f (now (start .args .codes)) (now (start .args .physical)))
-    (ap levelOf (at .levels-at .ensures) ∙ levels-value (now (start .args .file)) _ _))
+    (levels-value (now (start .args .file)) _ _ (at .unscaled-levels .ensures)))
 
 same-length-4 : tie.Need-same-length-4
 same-length-4 c = search needs
@@ -76,7 +76,7 @@ fill-spec =
     enum-known-v-2
     fill-precip-requires
     enum-known-v-3
-    levels-at-requires
+    unscaled-levels-requires
     fill-levels-requires
     enum-told
     fill-class-requires

@@ -1,5 +1,8 @@
+use mathlib.Core.Path.{ap}
+use lib.Ieee.{Float}
+use Rattle.bytes.specs.Float.{_⊗_}
 use Rattle.scale.proofs.Mapped.{Mapped, mapped-first, mapped-turn, mapped-end}
-use Rattle.scale.specs.Physical.{levelOf}
+use Rattle.scale.specs.Physical.{scaledLevelOf}
 use lib.ListN.{length}
 use Prim.Native.Nat.{_-_}
 use native.Mathlib.Omega.{arith}
@@ -8,10 +11,10 @@ use Rattle.scale.proofs.physical.fill_any_levels.Statement.{statement}
 use Rattle.scale.proofs.physical.fill_any_levels.Tie as tie
 
 abbrev Inv-loop : tie.InvT-loop
-Inv-loop levels codes physical₀ i₀ physical i = Mapped (levelOf levels) codes physical₀ physical i
+Inv-loop unscaled post-scale codes physical₀ i₀ physical i = Mapped (scaledLevelOf unscaled post-scale) codes physical₀ physical i
 
 abbrev μ-loop : tie.MeasureT-loop
-μ-loop levels codes physical₀ i₀ physical i = length codes - i
+μ-loop unscaled post-scale codes physical₀ i₀ physical i = length codes - i
 
 loop-holds : tie.Need-loop-holds Inv-loop μ-loop
 loop-holds c = mapped-first _ _ _ (search needs)
@@ -38,7 +41,7 @@ loop-less : tie.Need-loop-less Inv-loop μ-loop
 loop-less c = search needs
 
 loop-again : tie.Need-loop-again Inv-loop μ-loop
-loop-again c = mapped-turn (c .before .before .before .loop .inv) 0 _ (omega arith) (c .level-of .ensures)
+loop-again c = mapped-turn (c .before .before .before .loop .inv) 0 _ (omega arith) (ap (λ (x : Float). x ⊗ c .before .before .before .before .before .before .args .post-scale) (c .level-of .ensures))
 
 same-length : tie.Need-same-length Inv-loop μ-loop
 same-length c = search needs
