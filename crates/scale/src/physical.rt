@@ -137,10 +137,13 @@ pub fn class_int_physical(code: u16) -> f32
 
 // 0.0, worked out from a code so that the compiler does not know the number. If it knew NaN and the floor, it would choose between values
 // where `gap` adds, and test codes as 16 bits, and the loops below would be slower.
-fn zero_of(code: u16) -> f32
+fn zero_of(codes: &[u16]) -> f32
     ensures { λ r. ⌜ r ≡ f32 0 1 ⌝ }
 {
-    let x = code as f32;
+    if codes.len() == 0 {
+        return 0.0;
+    }
+    let x = codes[0] as f32;
     x - x
 }
 
@@ -207,14 +210,14 @@ fn level_of(levels: &[f32; 16], code: u16) -> f32
     }
 }
 
-fn fill_open(min: f32, step: f32, floor: u16, codes: &[u16], physical: &mut [f32])
-    requires { ⌜ length (now codes) ≤ length (now physical) ⌝ }
+// How many codes `fill_open` and `fill_class` take at a time: few enough for the compiler to write the block out without a loop.
+const BLOCK: usize = 64;
+
+// The values of some codes, from the floor on.
+fn open_values(zero: f32, min: f32, step: f32, floor: u16, codes: &[u16], physical: &mut [f32])
+    requires { ⌜ (zero ≡ f32 0 1) × (length (now codes) ≤ length (now physical)) ⌝ }
     ensures { λ _. ⌜ now (physical .exit) ≡ filled (openValue min step floor) (now (codes .entry)) (now (physical .entry)) ⌝ }
 {
-    if codes.len() == 0 {
-        return;
-    }
-    let zero = zero_of(codes[0]);
     let mut i = 0usize;
     while i < codes.len() {
         physical[i] = open_value(zero, min, step, floor, codes[i]);
@@ -222,14 +225,32 @@ fn fill_open(min: f32, step: f32, floor: u16, codes: &[u16], physical: &mut [f32
     }
 }
 
+fn fill_open(min: f32, step: f32, floor: u16, codes: &[u16], physical: &mut [f32])
+    requires { ⌜ length (now codes) ≤ length (now physical) ⌝ }
+    ensures { λ _. ⌜ now (physical .exit) ≡ filled (openValue min step floor) (now (codes .entry)) (now (physical .entry)) ⌝ }
+{
+    let zero = zero_of(codes);
+    let mut i = 0usize;
+    while codes.len() - i >= BLOCK {
+        let end = i + BLOCK;
+        open_values(
+            zero,
+            min,
+            step,
+            floor,
+            &codes[i..end],
+            &mut physical[i..end],
+        );
+        i = end;
+    }
+    open_values(zero, min, step, floor, &codes[i..], &mut physical[i..]);
+}
+
 fn fill_capped(min: f32, step: f32, floor: u16, top: u16, codes: &[u16], physical: &mut [f32])
     requires { ⌜ length (now codes) ≤ length (now physical) ⌝ }
     ensures { λ _. ⌜ now (physical .exit) ≡ filled (cappedValue min step floor top) (now (codes .entry)) (now (physical .entry)) ⌝ }
 {
-    if codes.len() == 0 {
-        return;
-    }
-    let zero = zero_of(codes[0]);
+    let zero = zero_of(codes);
     let mut i = 0usize;
     while i < codes.len() {
         physical[i] = capped_value(zero, min, step, floor, top, codes[i]);
@@ -304,19 +325,30 @@ fn fill_levels(unscaled: &[f32; 16], post_scale: f32, codes: &[u16], physical: &
     }
 }
 
-fn fill_class(codes: &[u16], physical: &mut [f32])
-    requires { ⌜ length (now codes) ≤ length (now physical) ⌝ }
+// The values of some codes that name classes.
+fn class_values(zero: f32, codes: &[u16], physical: &mut [f32])
+    requires { ⌜ (zero ≡ f32 0 1) × (length (now codes) ≤ length (now physical)) ⌝ }
     ensures { λ _. ⌜ now (physical .exit) ≡ filled classValue (now (codes .entry)) (now (physical .entry)) ⌝ }
 {
-    if codes.len() == 0 {
-        return;
-    }
-    let zero = zero_of(codes[0]);
     let mut i = 0usize;
     while i < codes.len() {
         physical[i] = class_value(zero, codes[i]);
         i += 1usize;
     }
+}
+
+fn fill_class(codes: &[u16], physical: &mut [f32])
+    requires { ⌜ length (now codes) ≤ length (now physical) ⌝ }
+    ensures { λ _. ⌜ now (physical .exit) ≡ filled classValue (now (codes .entry)) (now (physical .entry)) ⌝ }
+{
+    let zero = zero_of(codes);
+    let mut i = 0usize;
+    while codes.len() - i >= BLOCK {
+        let end = i + BLOCK;
+        class_values(zero, &codes[i..end], &mut physical[i..end]);
+        i = end;
+    }
+    class_values(zero, &codes[i..], &mut physical[i..]);
 }
 
 fn fill_precip(p: PrecipScale, codes: &[u16], physical: &mut [f32])

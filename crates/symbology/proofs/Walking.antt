@@ -9,7 +9,7 @@ use lib.ListN.{length, take, drop}
 use lib.Seq.{slice}
 use lib.Dec.{ltb, eqb}
 use lib.Ieee.{Float}
-use borrow.Author.Tests.{ltb-false}
+use borrow.Author.Tests.{ltb-false, eqb-true}
 use Rattle.bytes.specs.Bytes.{u16At}
 use Rattle.bytes.specs.Refusal.{Refusal}
 use Rattle.bytes.specs.Result.{Result, accepted, refused, then}
@@ -18,11 +18,13 @@ use Rattle.bytes.proofs.Readings.{walk-then, walk-give, then-passed, then-halte
 use Rattle.symbology.specs.Rows.{rowOf}
 use Rattle.symbology.specs.Places.{Enough}
 use Rattle.symbology.specs.Symbology.{covered, countWrong}
-use Rattle.symbology.specs.Walk.{Span, Place, expectedOf, beamSpan, xdrRadialSpan, anyFrame, anyRadial, anyWalk, placed, position}
+use Rattle.symbology.specs.Walk.{Span, Place, expectedOf, beamSpan, xdrRadialSpan, anyFrame, anyRadial, anyWalk, placed, position, nextOf, endsAt, walkFrom}
 use Rattle.symbology.proofs.Beams.{beam-is}
 use Rattle.symbology.proofs.XdrFrames.{framed}
 use Rattle.symbology.specs.declared.figures.Packet.{Packet}
 use Rattle.symbology.specs.declared.figures.Packet.the-variants.{Packet16, PacketAf1f, Packet28}
+use Rattle.symbology.specs.declared.spans.Next.{Next}
+use Rattle.symbology.specs.declared.spans.Next.the-variants as Next
 
 -- ---- a frame that passed
 
@@ -168,29 +170,41 @@ module _ (packet : Packet) (radials bins : ℕ) (s : List ℕ) where
       go (halted x q) = refl
 
   -- The checking walk: what is left of it says what the whole says.
-  pub record Checked (start r at : ℕ) : Type 0 where
+  pub record Checked (whole : Result ℕ) (r at : ℕ) : Type 0 where
     pub number : r ≤ radials
-    pub left : position (walk (anyWalk packet radials bins (radials - r) r) s at) ≡ position (walk (anyWalk packet radials bins radials 0) s start)
+    pub left : walkFrom packet radials bins s r at ≡ whole
 
-  pub checked-first : (start : ℕ) → Checked start 0 start
+  pub checked-from : (r at : ℕ) → r ≤ radials → Checked (walkFrom packet radials bins s r at) r at
+  checked-from r at h = record { number = h; left = refl }
+
+  pub checked-first : (start : ℕ) → Checked (position (walk (anyWalk packet radials bins radials 0) s start)) 0 start
   checked-first start = let e : radials - 0 ≡ radials = omega arith in record { number = omega arith; left = rw e refl }
 
-  module _ {start r at : ℕ} (inv : Checked start r at) where
-    turn : r < radials → then (position (walk (anyRadial packet radials bins r) s at)) (λ q. position (walk (anyWalk packet radials bins (radials - (r + 1)) (r + 1)) s q))
-        ≡ position (walk (anyWalk packet radials bins radials 0) s start)
-    turn h =
+  module _ {whole : Result ℕ} {r at : ℕ} (inv : Checked whole r at) where
+    -- one radial, refused or not
+    pub checked-turn : {c : Result ℕ} → r < radials → c ≡ position (walk (anyRadial packet radials bins r) s at)
+        → then c (λ q. walkFrom packet radials bins s (r + 1) q) ≡ whole
+    checked-turn {c} h k =
         let e : radials - r ≡ suc (radials - suc r) = omega arith in
-        rw (add-one r)
+        rw (k, add-one r)
         (sym (walk-suc (radials - suc r) r at) ∙ ap (λ k. position (walk (anyWalk packet radials bins k r) s at)) (sym e) ∙ inv .left)
 
-    pub checked-next : {q : ℕ} → r < radials → accepted q ≡ position (walk (anyRadial packet radials bins r) s at) → Checked start (r + 1) q
-    checked-next h k =
-        record { number = omega arith; left = ap (λ c. then c (λ q. position (walk (anyWalk packet radials bins (radials - (r + 1)) (r + 1)) s q))) k ∙ turn h }
+    pub checked-next : {q : ℕ} → r < radials → accepted q ≡ position (walk (anyRadial packet radials bins r) s at) → Checked whole (r + 1) q
+    checked-next h k = record { number = omega arith; left = checked-turn h k }
 
-    pub checked-stop : {x : Refusal} → r < radials → refused x ≡ position (walk (anyRadial packet radials bins r) s at)
-        → refused x ≡ position (walk (anyWalk packet radials bins radials 0) s start)
-    checked-stop h k = ap (λ c. then c (λ q. position (walk (anyWalk packet radials bins (radials - (r + 1)) (r + 1)) s q))) k ∙ turn h
+    -- a stretch of radials, the last of which was refused or not
+    module _ {c : Result ℕ} (m : ℕ) (e : then c (λ q. walkFrom packet radials bins s m q) ≡ walkFrom packet radials bins s r at) where
+      pub checked-stretch : {q : ℕ} → m ≤ radials → c ≡ accepted q → Checked whole m q
+      checked-stretch h k = record { number = h; left = rw k at e ∙ inv .left }
 
-    pub checked-end : radials ≤ r → accepted at ≡ position (walk (anyWalk packet radials bins radials 0) s start)
+      pub checked-stop : {x : Refusal} → c ≡ refused x → refused x ≡ whole
+      checked-stop k = rw k at e ∙ inv .left
+
+    pub checked-end : radials ≤ r → accepted at ≡ whole
     unfolding anyWalk walk
     checked-end h = let e : radials - r ≡ 0 = omega arith in sym (ap (λ k. position (walk (anyWalk packet radials bins k r) s at)) e) ∙ inv .left
+
+-- a radial that ended where it was guessed to end
+pub ends-there : (next : Next) (p : ℕ) → endsAt next p ≡ true → nextOf next ≡ accepted p
+ends-there (Next.At q) p h = ap accepted (eqb-true q p h)
+ends-there (Next.Refused x) p h = let z : _≡_ {A = ℕ} 0 1 = cc in absurd (omega arith)

@@ -1,6 +1,6 @@
 -- The walk over the radials as the code goes, one for all packets; it is the reading's (proofs/Bodies.antt `walk-is`, XdrRadials.antt
 -- `radials-are`). No public contract cites this file.
-use Prim.Native.Nat.{ℕ, zero, suc, _+_, _*_, _≤_}
+use Prim.Native.Nat.{ℕ, zero, suc, _+_, _*_, _-_, _≤_}
 use mathlib.Core.List.{List, [], _∷_}
 use mathlib.Core.Path.{_≡_}
 use mathlib.Core.Bool.{Bool, true, false, not}
@@ -11,7 +11,7 @@ use lib.Ieee.{Float}
 use Rattle.bytes.specs.Refusal.{refusalOf, kind, nat}
 use Rattle.bytes.specs.Bytes.{u16At}
 use Rattle.bytes.specs.Result.{Result, accepted, refused, then}
-use Rattle.bytes.specs.Reading.{Read, Flat, give, remaining, _>>=_, _>>_, radial-data, refuse-if, run, Given, Ended, passed, halted, onward, reached}
+use Rattle.bytes.specs.Reading.{Read, Flat, give, remaining, _>>=_, _>>_, radial-data, refuse-if, run, walk, Given, Ended, passed, halted, onward, reached}
 use Rattle.xdr.specs.Xdr.{pointer, elements}
 use Rattle.symbology.specs.Centre.{centre}
 use Rattle.symbology.specs.Rows.{rowOf}
@@ -98,6 +98,14 @@ nextOf (Next.Refused e) = refused (refusalOf e)
 abbrev pub position : {A : Type 0} → Ended A → Result ℕ
 position (passed a q) = accepted q
 position (halted x q) = refused x
+
+abbrev pub endsAt : Next → ℕ → Bool
+endsAt (Next.At q) p = eqb q p
+endsAt (Next.Refused e) p = false
+
+-- the position after the walk from radial r on, which starts at p
+abbrev pub walkFrom : Packet → ℕ → ℕ → List ℕ → ℕ → ℕ → Result ℕ
+walkFrom packet radials bins s r p = position (walk (anyWalk packet radials bins (radials - r) r) s p)
 
 -- a frame's step
 abbrev pub xdrRadialThen : Float → ℕ → Step → Ended XdrRadial

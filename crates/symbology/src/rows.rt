@@ -60,8 +60,11 @@ fn byte(buf: &[u8], i: usize) -> u32
 
 // ---- packet 16
 
+// How many bytes are widened at a time: few enough for the compiler to write the block out without a loop.
+const BLOCK: usize = 64;
+
 // The first bytes, one to each place of the row.
-fn write_bytes(src: &[u8], row: &mut [u16])
+fn widen(src: &[u8], row: &mut [u16])
     requires { ⌜ length (now row) ≤ length (now src) ⌝ }
     ensures { λ _. ⌜ now (row .exit) ≡ take (length (now (row .entry))) (now (src .entry)) ⌝ }
 {
@@ -70,6 +73,20 @@ fn write_bytes(src: &[u8], row: &mut [u16])
         row[i] = wide(src[i]);
         i += 1;
     }
+}
+
+// The same, block by block.
+fn write_bytes(src: &[u8], row: &mut [u16])
+    requires { ⌜ length (now row) ≤ length (now src) ⌝ }
+    ensures { λ _. ⌜ now (row .exit) ≡ take (length (now (row .entry))) (now (src .entry)) ⌝ }
+{
+    let mut i: usize = 0;
+    while row.len() - i >= BLOCK {
+        let end = i + BLOCK;
+        widen(&src[i..end], &mut row[i..end]);
+        i = end;
+    }
+    widen(&src[i..], &mut row[i..]);
 }
 
 // ---- packet AF1F

@@ -6,12 +6,12 @@ use crate::spans::PlanRead;
 use crate::spans::SpanRead;
 use crate::trailing::Check;
 ghost use mathlib.Core.Path.{_≡_};
-ghost use Prim.Native.Nat.{_*_, _≤_};
+ghost use Prim.Native.Nat.{_*_, _≤_, _<_};
 ghost use lib.ListN.{length};
-ghost use Rattle.bytes.specs.Result.{accepted, lent};
+ghost use Rattle.bytes.specs.Result.{accepted, then, lent};
 ghost use Rattle.bytes.specs.Reading.{walk, run};
 ghost use Rattle.symbology.specs.Answers.{joined};
-ghost use Rattle.symbology.specs.Walk.{anyFrame, anyRadial, anyWalk, placeOf, placed, nextOf, position, Accepted, rowIn, centreIn, sweepFrom, Plans};
+ghost use Rattle.symbology.specs.Walk.{anyFrame, anyRadial, anyWalk, placeOf, placed, nextOf, position, endsAt, walkFrom, Accepted, rowIn, centreIn, sweepFrom, Plans};
 
 // A radial's centre and the place of its data.
 pub fn frame_span(
@@ -71,7 +71,60 @@ fn check_radial(
     }
 }
 
-// All radials.
+fn ends_at(next: Next, place: usize) -> bool
+    ensures { λ r. ⌜ r ≡ endsAt next place ⌝ }
+{
+    match next {
+        Next::At(end) => end == place,
+        Next::Refused(_) => false,
+    }
+}
+
+// What a stretch of radials came to: how many are checked by then, where the last of them starts, and where it ends or why it is refused.
+pub struct Stretch {
+    pub checked: usize,
+    pub last: usize,
+    pub next: Next,
+}
+
+// Radials from radial `first` on, up to one that is refused or that is not `size` bytes long, that one too. The place of the next is
+// guessed by the size, so that the machine can read on before it knows this one's count. No answer depends on the guess.
+fn check_stretch(
+    packet: Packet,
+    s: &[u8],
+    start: usize,
+    size: usize,
+    n_radials: usize,
+    n_bins: usize,
+    first: usize,
+) -> Stretch
+    requires { ⌜ («n_radials» ≤ 100000) × (first < «n_radials») ⌝ }
+    ensures { λ x. ⌜ then (nextOf (x .next)) (λ q. walkFrom packet «n_radials» «n_bins» (now (s .entry)) (x .checked) q) ≡ walkFrom packet «n_radials» «n_bins» (now (s .entry)) first start ⌝ }
+    ensures { λ x. ⌜ (first < x .checked) × (x .checked ≤ «n_radials») ⌝ }
+{
+    let mut at = start;
+    let mut r = first;
+    while r < n_radials {
+        let guess = std::num::wrapping_add_usize(at, size);
+        let next = check_radial(packet, s, at, n_radials, n_bins, r);
+        if !ends_at(next, guess) {
+            return Stretch {
+                checked: r + 1,
+                last: at,
+                next,
+            };
+        }
+        at = guess;
+        r += 1;
+    }
+    Stretch {
+        checked: r,
+        last: at,
+        next: Next::At(at),
+    }
+}
+
+// All radials. Each stretch guesses that its radials are as long as the last one before it.
 pub fn check_radials(
     packet: Packet,
     s: &[u8],
@@ -83,18 +136,21 @@ pub fn check_radials(
     ensures { λ x. ⌜ nextOf x ≡ position (walk (anyWalk packet «n_radials» «n_bins» «n_radials» 0) (now (s .entry)) start) ⌝ }
 {
     let mut at = start;
+    let mut size: usize = 0;
     let mut r: usize = 0;
     while r < n_radials {
-        let next = check_radial(packet, s, at, n_radials, n_bins, r);
+        let x = check_stretch(packet, s, at, size, n_radials, n_bins, r);
+        let next = x.next;
         match next {
-            Next::At(e) => {
-                at = e;
+            Next::At(end) => {
+                size = std::num::wrapping_sub_usize(end, x.last);
+                at = end;
             }
             Next::Refused(error) => {
                 return Next::Refused(error);
             }
         }
-        r += 1;
+        r = x.checked;
     }
     Next::At(at)
 }

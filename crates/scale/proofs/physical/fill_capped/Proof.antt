@@ -1,9 +1,8 @@
-use Rattle.scale.proofs.Mapped.{Mapped, mapped-first, mapped-turn, mapped-end, mapped-none}
+use Rattle.scale.proofs.Mapped.{Mapped, mapped-first, mapped-turn, mapped-end}
 use Rattle.scale.specs.Physical.{cappedValue}
 use lib.ListN.{length}
 use Prim.Native.Nat.{_-_}
 use native.Mathlib.Omega.{arith}
-use denote.Ref.{now}
 use borrow.Author.Needs.{needs}
 use Rattle.scale.proofs.physical.fill_capped.Statement.{statement}
 use Rattle.scale.proofs.physical.fill_capped.Tie as tie
@@ -13,12 +12,6 @@ Inv-loop min step floor top codes physical₀ zero i₀ physical i = Mapped (cap
 
 abbrev μ-loop : tie.MeasureT-loop
 μ-loop min step floor top codes physical₀ zero i₀ physical i = length codes - i
-
-returns : tie.Need-returns Inv-loop μ-loop
-returns c = let a = c .before .before .before .args in mapped-none (cappedValue (a .min) (a .step) (a .floor) (a .top)) (now (a .codes)) _ (c .if1 .taken)
-
-shared-slice-read-zero-of : tie.Need-shared-slice-read-zero-of Inv-loop μ-loop
-shared-slice-read-zero-of c = search needs
 
 zero-of-requires : tie.Need-zero-of-requires Inv-loop μ-loop
 zero-of-requires c κs = search needs
@@ -53,8 +46,8 @@ loop-again c = mapped-turn (c .before .before .before .loop .inv) 0 _ (omega ari
 same-length : tie.Need-same-length Inv-loop μ-loop
 same-length c = search needs
 
-returns-2 : tie.Need-returns-2 Inv-loop μ-loop
-returns-2 c = mapped-end (c .before .loop .inv) (c .loop-test .left)
+returns : tie.Need-returns Inv-loop μ-loop
+returns c = mapped-end (c .before .loop .inv) (c .loop-test .left)
 
 pub fill-capped-spec : {M : Type 1} → statement M
 fill-capped-spec =
@@ -62,8 +55,6 @@ fill-capped-spec =
     (tie.spec
     Inv-loop
     μ-loop
-    returns
-    shared-slice-read-zero-of
     zero-of-requires
     loop-holds
     mul-capped-value
@@ -75,4 +66,4 @@ fill-capped-spec =
     loop-less
     loop-again
     same-length
-    returns-2)
+    returns)

@@ -1,9 +1,8 @@
-use Rattle.scale.proofs.Mapped.{Mapped, mapped-first, mapped-turn, mapped-end, mapped-none}
+use Rattle.scale.proofs.Mapped.{Mapped, mapped-first, mapped-part, mapped-end}
 use Rattle.scale.specs.Physical.{classValue}
 use lib.ListN.{length}
 use Prim.Native.Nat.{_-_}
 use native.Mathlib.Omega.{arith}
-use denote.Ref.{now}
 use borrow.Author.Needs.{needs}
 use Rattle.scale.proofs.physical.fill_class.Statement.{statement}
 use Rattle.scale.proofs.physical.fill_class.Tie as tie
@@ -14,47 +13,87 @@ Inv-loop codes physical₀ zero i₀ physical i = Mapped classValue codes physic
 abbrev μ-loop : tie.MeasureT-loop
 μ-loop codes physical₀ zero i₀ physical i = length codes - i
 
-returns : tie.Need-returns Inv-loop μ-loop
-returns c = let a = c .before .before .before .args in mapped-none classValue (now (a .codes)) _ (c .if1 .taken)
-
-shared-slice-read-zero-of : tie.Need-shared-slice-read-zero-of Inv-loop μ-loop
-shared-slice-read-zero-of c = search needs
-
 zero-of-requires : tie.Need-zero-of-requires Inv-loop μ-loop
 zero-of-requires c κs = search needs
 
 loop-holds : tie.Need-loop-holds Inv-loop μ-loop
 loop-holds c = mapped-first _ _ _ (search needs)
 
-mul-class-value : tie.Need-mul-class-value Inv-loop μ-loop
-mul-class-value c = search needs
+sub-loop : tie.Need-sub-loop Inv-loop μ-loop
+sub-loop c = search needs
 
-shared-slice-read-class-value : tie.Need-shared-slice-read-class-value Inv-loop μ-loop
-shared-slice-read-class-value c = search needs
+add-end : tie.Need-add-end Inv-loop μ-loop
+add-end c = search needs
 
-class-value-requires : tie.Need-class-value-requires Inv-loop μ-loop
-class-value-requires c κs = search needs
+mul-class-values : tie.Need-mul-class-values Inv-loop μ-loop
+mul-class-values c = search needs
 
-mul-physical : tie.Need-mul-physical Inv-loop μ-loop
-mul-physical c = search needs
+sub-class-values : tie.Need-sub-class-values Inv-loop μ-loop
+sub-class-values c = search needs
 
-slice-write-physical : tie.Need-slice-write-physical Inv-loop μ-loop
-slice-write-physical c = search needs
+part-class-values-start : tie.Need-part-class-values-start Inv-loop μ-loop
+part-class-values-start c = search needs
 
-add-i : tie.Need-add-i Inv-loop μ-loop
-add-i c = search needs
+part-class-values-end : tie.Need-part-class-values-end Inv-loop μ-loop
+part-class-values-end c = search needs
+
+mul-class-values-2 : tie.Need-mul-class-values-2 Inv-loop μ-loop
+mul-class-values-2 c = search needs
+
+sub-class-values-2 : tie.Need-sub-class-values-2 Inv-loop μ-loop
+sub-class-values-2 c = search needs
+
+part-class-values-start-2 : tie.Need-part-class-values-start-2 Inv-loop μ-loop
+part-class-values-start-2 c = search needs
+
+part-class-values-end-2 : tie.Need-part-class-values-end-2 Inv-loop μ-loop
+part-class-values-end-2 c = search needs
+
+class-values-requires : tie.Need-class-values-requires Inv-loop μ-loop
+class-values-requires c κs = search needs
 
 loop-less : tie.Need-loop-less Inv-loop μ-loop
 loop-less c = search needs
 
 loop-again : tie.Need-loop-again Inv-loop μ-loop
-loop-again c = mapped-turn (c .before .before .before .loop .inv) 0 _ (omega arith) (c .class-value .ensures)
+loop-again c =
+    let at = c .before .before .before .before .before .before .loop in
+    mapped-part (at .inv) _ _ (omega arith) (search needs) (omega arith) (search needs) _ (c .before .before .class-values .ensures)
+
+mul-class-values-3 : tie.Need-mul-class-values-3 Inv-loop μ-loop
+mul-class-values-3 c = search needs
+
+sub-class-values-3 : tie.Need-sub-class-values-3 Inv-loop μ-loop
+sub-class-values-3 c = search needs
+
+part-class-values-start-3 : tie.Need-part-class-values-start-3 Inv-loop μ-loop
+part-class-values-start-3 c = search needs
+
+part-class-values-end-3 : tie.Need-part-class-values-end-3 Inv-loop μ-loop
+part-class-values-end-3 c = search needs
+
+mul-class-values-4 : tie.Need-mul-class-values-4 Inv-loop μ-loop
+mul-class-values-4 c = search needs
+
+sub-class-values-4 : tie.Need-sub-class-values-4 Inv-loop μ-loop
+sub-class-values-4 c = search needs
+
+part-class-values-start-4 : tie.Need-part-class-values-start-4 Inv-loop μ-loop
+part-class-values-start-4 c = search needs
+
+part-class-values-end-4 : tie.Need-part-class-values-end-4 Inv-loop μ-loop
+part-class-values-end-4 c = search needs
+
+class-values-requires-2 : tie.Need-class-values-requires-2 Inv-loop μ-loop
+class-values-requires-2 c κs = search needs
 
 same-length : tie.Need-same-length Inv-loop μ-loop
 same-length c = search needs
 
-returns-2 : tie.Need-returns-2 Inv-loop μ-loop
-returns-2 c = mapped-end (c .before .loop .inv) (c .loop-test .left)
+returns : tie.Need-returns Inv-loop μ-loop
+returns c =
+    let at = c .before .before .before .before .before .before .loop in
+    mapped-end (mapped-part (at .inv) _ _ (at .inv .place) (omega arith) (omega (arith, at .inv .room, at .inv .long)) (omega arith) _ (c .before .before .class-values2 .ensures)) (omega arith)
 
 pub fill-class-spec : {M : Type 1} → statement M
 fill-class-spec =
@@ -62,17 +101,29 @@ fill-class-spec =
     (tie.spec
     Inv-loop
     μ-loop
-    returns
-    shared-slice-read-zero-of
     zero-of-requires
     loop-holds
-    mul-class-value
-    shared-slice-read-class-value
-    class-value-requires
-    mul-physical
-    slice-write-physical
-    add-i
+    sub-loop
+    add-end
+    mul-class-values
+    sub-class-values
+    part-class-values-start
+    part-class-values-end
+    mul-class-values-2
+    sub-class-values-2
+    part-class-values-start-2
+    part-class-values-end-2
+    class-values-requires
     loop-less
     loop-again
+    mul-class-values-3
+    sub-class-values-3
+    part-class-values-start-3
+    part-class-values-end-3
+    mul-class-values-4
+    sub-class-values-4
+    part-class-values-start-4
+    part-class-values-end-4
+    class-values-requires-2
     same-length
-    returns-2)
+    returns)
