@@ -1,6 +1,6 @@
 -- The walk over the radials as the code goes, one for all packets; it is the reading's (proofs/Bodies.antt `walk-is`, XdrRadials.antt
 -- `radials-are`). No public contract cites this file.
-use Prim.Native.Nat.{ℕ, zero, suc, _+_, _*_, _-_, _≤_}
+use Prim.Native.Nat.{ℕ, zero, suc, _+_, _*_, _-_, _/_, _%_, _≤_}
 use mathlib.Core.List.{List, [], _∷_}
 use mathlib.Core.Path.{_≡_}
 use mathlib.Core.Bool.{Bool, true, false, not}
@@ -138,6 +138,10 @@ firstRow (row ∷ rows) = row
 abbrev pub rowIn : Result (Given Float) → List ℕ
 rowIn (accepted g) = firstRow (g .rows)
 rowIn (refused x) = []
+
+-- a halfword with its bytes in the other order
+abbrev pub swap : ℕ → ℕ
+swap h = h % 256 * 256 + h / 256
 
 -- its centre, and the position after it
 abbrev pub centreIn : Result (Given Float) → Result (Float × ℕ)

@@ -4,14 +4,15 @@ use crate::figures::Packet;
 use crate::trailing::Check;
 use bytes::error::Level3DecodeError;
 ghost use mathlib.Core.Path.{_≡_};
-ghost use Prim.Native.Nat.{_+_, _*_, _/_, _%_, _≤_, _<_, min};
+ghost use Prim.Native.Nat.{_+_, _*_, _≤_, _<_, min};
 ghost use mathlib.Core.Bool.{true};
-ghost use mathlib.Core.List.{_++_};
+ghost use mathlib.Core.List.{_++_, map};
 ghost use lib.ListN.{length, getD, take, drop, replicate};
 ghost use Rattle.bytes.specs.Bytes.{u16At};
 ghost use Rattle.bytes.specs.Result.{accepted, then};
 ghost use Rattle.bytes.specs.Text.{all, leading};
 ghost use Rattle.symbology.specs.Rows.{reach, cells, rowAF1F, words, isLevel, levels, rowOf, codesOf, FullRow};
+ghost use Rattle.symbology.specs.Walk.{swap};
 ghost use Rattle.symbology.specs.Answers.{checkOf};
 
 // Whether the data make a row: always in packet 16; in AF1F 22, in packet 28 34.
@@ -43,6 +44,9 @@ pub fn write_row(packet: Packet, data: &[u8], row: &mut [u16])
     }
 }
 
+// How many cells of a row are written at a time, in packets 16 and 28: few enough for the compiler to write the block out without a loop.
+const BLOCK: usize = 64;
+
 // ---- bytes, with their bound
 
 fn wide(b: u8) -> u16
@@ -59,9 +63,6 @@ fn byte(buf: &[u8], i: usize) -> u32
 }
 
 // ---- packet 16
-
-// How many bytes are widened at a time: few enough for the compiler to write the block out without a loop.
-const BLOCK: usize = 64;
 
 // The first bytes, one to each place of the row.
 fn widen(src: &[u8], row: &mut [u16])
@@ -226,30 +227,66 @@ fn check_levels(radial: usize, data: &[u8]) -> Check
     })
 }
 
-// Two bytes with the first as the lower. At 16 bits: at 32 the compiler keeps the bytes apart.
-fn low_first_half(buf: &[u8], at: usize) -> u16
-    requires { ⌜ at + 2 ≤ length (now buf) ⌝ }
-    ensures { λ r. ⌜ (r % 256 * 256 + r / 256 ≡ u16At (now (buf .entry)) at) × (r < 65536) ⌝ }
+// A halfword with its bytes in the other order.
+fn swapped(h: u16) -> u16
+    ensures { λ r. ⌜ r ≡ swap h ⌝ }
 {
-    wide(buf[at]) + wide(buf[at + 1]) * 256
-}
-
-fn half_at(buf: &[u8], at: usize) -> u16
-    requires { ⌜ at + 2 ≤ length (now buf) ⌝ }
-    ensures { λ r. ⌜ r ≡ u16At (now (buf .entry)) at ⌝ }
-{
-    let h = low_first_half(buf, at);
     h % 256 * 256 + h / 256
 }
 
-// The levels of an array's body into the row. Each is its lower halfword.
+// The lower halfword of an integer, with its bytes in the other order. `zero` is 0, which the compiler does not know: if it did, it would
+// read the two bytes alone, and take more steps to put them together.
+fn raw_level(zero: u32, buf: &[u8], at: usize) -> u16
+    requires { ⌜ (zero ≡ 0) × (at + 4 ≤ length (now buf)) ⌝ }
+    ensures { λ r. ⌜ r ≡ swap (u16At (now (buf .entry)) (at + 2)) ⌝ }
+{
+    ((low_first(buf, at) + zero) / 65536) as u16
+}
+
+// The levels of an array's body from one on, to every place of a part, with their bytes in the other order. Each is its integer's lower
+// halfword.
+fn write_raw(zero: u32, body: &[u8], from: usize, part: &mut [u16])
+    requires { ⌜ (zero ≡ 0) × ((from + length (now part)) * 4 ≤ length (now body)) × (all isLevel (words (now body)) ≡ true) ⌝ }
+    ensures { λ _. ⌜ now (part .exit) ≡ map swap (take (length (now (part .entry))) (drop from (words (now (body .entry))))) ⌝ }
+{
+    let mut i: usize = 0;
+    while i < part.len() {
+        part[i] = raw_level(zero, body, (from + i) * 4);
+        i += 1;
+    }
+}
+
+fn swap_all(part: &mut [u16])
+    ensures { λ _. ⌜ now (part .exit) ≡ map swap (now (part .entry)) ⌝ }
+{
+    let mut i: usize = 0;
+    while i < part.len() {
+        part[i] = swapped(part[i]);
+        i += 1;
+    }
+}
+
+// The levels from one on, to every place of a part. In two loops: in one the compiler would swap the bytes before it puts halfwords
+// together, of twice as many.
+fn write_part(zero: u32, body: &[u8], from: usize, part: &mut [u16])
+    requires { ⌜ (zero ≡ 0) × ((from + length (now part)) * 4 ≤ length (now body)) × (all isLevel (words (now body)) ≡ true) ⌝ }
+    ensures { λ _. ⌜ now (part .exit) ≡ take (length (now (part .entry))) (drop from (words (now (body .entry)))) ⌝ }
+{
+    write_raw(zero, body, from, part);
+    swap_all(part);
+}
+
+// The levels of an array's body into the row. The first byte of a level is 0.
 fn write_levels(body: &[u8], row: &mut [u16])
     requires { ⌜ (length (now body) ≡ length (now row) * 4) × (all isLevel (words (now body)) ≡ true) ⌝ }
     ensures { λ _. ⌜ now (row .exit) ≡ words (now (body .entry)) ⌝ }
 {
+    let zero = bytes::bytes::byte_at(body, 0);
     let mut i: usize = 0;
-    while i < row.len() {
-        row[i] = half_at(body, i * 4 + 2);
-        i += 1;
+    while row.len() - i >= BLOCK {
+        let end = i + BLOCK;
+        write_part(zero, body, i, &mut row[i..end]);
+        i = end;
     }
+    write_part(zero, body, i, &mut row[i..]);
 }

@@ -1,5 +1,5 @@
-//! The cases that every run has: short inputs exhaustively, every length of small files and bodies, every byte of them, the
-//! places outside the Rust's domain, the caps, and the two grid sizes.
+//! The cases that every run has: short inputs exhaustively, every length of small files and bodies, every byte of them, rows of every
+//! length up to 200 cells, radials of every mix of lengths, the places outside the Rust's domain, the caps, and the two grid sizes.
 use super::Compare;
 use crate::make::body::{self, Body};
 use crate::make::{cases, file, Rng};
@@ -44,6 +44,8 @@ impl Compare {
             self.every_length(rng);
             self.every_byte(rng);
         }
+        self.every_width(seed);
+        self.mixed_radials(seed);
         self.caps(seed);
         self.grids(seed);
     }
@@ -281,6 +283,46 @@ impl Compare {
                     self.both(&whole(scheme, &changed, body.bytes.clone()));
                 }
             }
+        }
+    }
+
+    /// Rows of every length up to 200 cells: codes and values are written in blocks, with a rest of every size.
+    fn every_width(&mut self, seed: u64) {
+        let rng = &mut Rng::new(seed, u64::MAX / 3);
+        for scheme in 0..5 {
+            let scheme = Scheme::of(scheme, 0.254).unwrap();
+            let file = plain_file(rng, scheme);
+            for packet in Packet::ALL {
+                for bins in 1..=200 {
+                    let body = body::of_size(rng, packet, 2, bins).bytes;
+                    let lent = Lent { azimuths: 3, codes: 2 * bins + 1, physical: 2 * bins + bins % 2 };
+                    self.both(&Case::Sweep { clock: 1 << 40, scheme, lent, file: file.clone(), body });
+                }
+            }
+        }
+    }
+
+    /// Five radials of packet 16 of every mix of three lengths, all good, and with each of them in turn refused: the check guesses that
+    /// a radial is as long as the one before.
+    fn mixed_radials(&mut self, seed: u64) {
+        let rng = &mut Rng::new(seed, u64::MAX / 11);
+        for mix in 0..3usize.pow(5) {
+            let mut bytes = body::header(rng, Packet::P16, 5, 2);
+            let mut widths = vec![];
+            for radial in 0..5 {
+                let count = 2 + mix / 3usize.pow(radial) % 3;
+                widths.push(bytes.len() + 4);
+                bytes.extend([count as u16, rng.u16(), 10].map(u16::to_be_bytes).concat());
+                bytes.extend(rng.bytes(count));
+            }
+            self.both(&Case::Sym { body: bytes.clone() });
+            for at in widths {
+                let mut refused = bytes.clone();
+                refused[at + 1] = 0;
+                self.both(&Case::Sym { body: refused });
+            }
+            bytes.pop();
+            self.both(&Case::Sym { body: bytes });
         }
     }
 

@@ -3,7 +3,7 @@ use native.Mathlib.Omega.{arith}
 use Prim.Native.Nat.{_-_, _≤_}
 use lib.Seq.{length-take-le}
 use lib.ListN.{length, take}
-use Rattle.symbology.proofs.Stores.{Stored, stored-first, stored-part, stored-end}
+use Rattle.symbology.proofs.Stores.{Stored, stored-first, stored-front, stored-end}
 use Rattle.symbology.proofs.rows.write_bytes.Statement.{statement}
 use Rattle.symbology.proofs.rows.write_bytes.Tie as tie
 
@@ -52,7 +52,7 @@ loop-less c = search needs
 loop-again : tie.Need-loop-again Inv-loop μ-loop
 loop-again c =
     let at = c .before .before .before .before .before .before .loop in
-    (search needs, stored-part _ (at .inv .1) _ _ (omega arith) (search needs) (omega arith) (search needs) _ (c .before .before .widen .ensures))
+    (search needs, stored-front _ (at .inv .1) _ _ (omega arith) (search needs) (omega arith) (search needs) _ (c .before .before .widen .ensures))
 
 sub-widen-3 : tie.Need-sub-widen-3 Inv-loop μ-loop
 sub-widen-3 c = search needs
@@ -85,7 +85,7 @@ returns : tie.Need-returns Inv-loop μ-loop
 returns c =
     let at = c .before .before .before .before .before .before .loop in
     stored-end
-    (stored-part _ (at .inv .1) _ _ (omega (arith, at .inv .0, at .inv .1 .long)) (omega (arith, at .inv .1 .long)) (search needs) (omega arith) _ (c .before .before .widen2 .ensures))
+    (stored-front _ (at .inv .1) _ _ (omega (arith, at .inv .0, at .inv .1 .long)) (omega (arith, at .inv .1 .long)) (search needs) (omega arith) _ (c .before .before .widen2 .ensures))
     (omega arith)
 
 pub write-bytes-spec : {M : Type 1} → statement M

@@ -1,7 +1,7 @@
 use Rattle.symbology.proofs.Walking.{Checked, checked-first, checked-stretch, checked-stop, checked-end}
 use Rattle.symbology.specs.Walk.{anyWalk, position, nextOf}
 use Rattle.bytes.specs.Reading.{walk}
-use mathlib.Core.Path.{sym, ap, _∙_}
+use mathlib.Core.Path.{ap}
 use Prim.Native.Nat.{_-_}
 use borrow.Author.Needs.{needs}
 use Rattle.symbology.proofs.walks.check_radials.Statement.{statement}
