@@ -182,6 +182,7 @@ pub fn edges() -> Vec<(String, Case)> {
     grids(&mut list);
     payloads(&mut list);
     buffers(&mut list);
+    blocks(&mut list);
     smaller(&mut list);
     list.0
 }
@@ -434,6 +435,28 @@ fn buffers(list: &mut List) {
     list.add("step_before_lent", sweep(Scheme::Halfword, halfword(0, 0, 1), body.clone()));
     list.add("mismatch_before_lent", sweep(Scheme::Legacy(1.0), legacy(), body));
     list.add("walk_before_lent", sweep(Scheme::Class, class(), af1f(5, &[(1, 0, 10, &[0x11, 0])])));
+}
+
+/// Rows of 130 cells, so two blocks of 64 and a rest, of every packet under every scheme that it allows.
+fn blocks(list: &mut List) {
+    let bytes: Vec<u8> = (0..261).map(|i| (i * 7 % 256) as u8).collect();
+    let runs: Vec<u8> = (0..20).map(|i| 0xd0 | i * 3 % 16).collect();
+    let levels: Vec<i32> = (0..260).map(|i| i * 501 % 65_536).collect();
+    let sixteen = p16(130, &[(131, 0, 10, &bytes[..131]), (130, 10, 10, &bytes[131..])]);
+    let coloured = af1f(130, &[(5, 0, 10, &runs[..10]), (5, 10, 10, &runs[10..])]);
+    let generic = p28(&[Ray(0.0, 1.0, 130, &levels[..130]), Ray(1.0, 1.0, 130, &levels[130..])]);
+    for (name, scheme, file) in bench_files() {
+        let bodies = match scheme {
+            Scheme::Halfword | Scheme::Float => vec![("16", &sixteen), ("af1f", &coloured)],
+            Scheme::Legacy(_) => vec![("af1f", &coloured)],
+            Scheme::Precip(_) | Scheme::Class => vec![("16", &sixteen), ("af1f", &coloured), ("28", &generic)],
+        };
+        for (packet, body) in bodies {
+            let lent = Lent { azimuths: 3, codes: 261, physical: 262 };
+            let name = format!("blocks_{packet}_{}", name.replace(' ', "_"));
+            list.add(&name, Case::Sweep { clock: CLOCK, scheme, lent, file: file.clone(), body: body.clone() });
+        }
+    }
 }
 
 /// The readings below the sweep.

@@ -1,4 +1,5 @@
--- A loop that stores the elements of xs over a row of n places, from the front, one or several a turn. Assumes nothing.
+-- A loop that stores the elements of xs over a row of n places, from the front, one or several a turn; and one that puts f of each element in
+-- its place. Assumes nothing.
 use Prim.Native.Nat.{ℕ, suc, _+_, _-_, _≤_, _<_}
 use native.Mathlib.Numerals.{add-one}
 use native.Mathlib.Omega.{arith}

@@ -276,7 +276,7 @@ fn write_part(zero: u32, body: &[u8], from: usize, part: &mut [u16])
     swap_all(part);
 }
 
-// The levels of an array's body into the row. The first byte of a level is 0.
+// The levels of an array's body into the row. `zero` is the first byte of a level, if there is one.
 fn write_levels(body: &[u8], row: &mut [u16])
     requires { ⌜ (length (now body) ≡ length (now row) * 4) × (all isLevel (words (now body)) ≡ true) ⌝ }
     ensures { λ _. ⌜ now (row .exit) ≡ words (now (body .entry)) ⌝ }
