@@ -88,7 +88,8 @@ pub struct Stretch {
 }
 
 // Radials from radial `first` on, up to one that is refused or that is not `size` bytes long, that one too. The place of the next is
-// guessed by the size, so that the machine can read on before it knows this one's count. No answer depends on the guess.
+// guessed by the size, so that the machine can read on before it knows this one's count. No answer depends on the guess, and so the
+// contract leaves `last` open, which serves the next one.
 fn check_stretch(
     packet: Packet,
     s: &[u8],
