@@ -16,12 +16,12 @@ use Rattle.bytes.proofs.Readings.{part-slice}
 use Rattle.xdr.specs.Xdr.{atLeast0}
 use Rattle.bytes.specs.declared.error.Level3DecodeError.{Level3DecodeError}
 use Rattle.symbology.specs.Symbology.{Sweep, bodyShort, symbology}
-use Rattle.symbology.specs.Answers.{stepOf, Picture, joined, pictureOf, asked, roomIn, admit, decodeFor, figuresIn}
+use Rattle.symbology.specs.Answers.{stepOf, Picture, joined, pictureOf, asked, roomIn, admit, decodeFor, figuresIn, figuresOf, Decodes}
 use Rattle.symbology.specs.Walk.{anyWalk, Plotted, Plots}
 use Rattle.symbology.specs.declared.figures.Figures.{Figures}
 use Rattle.symbology.specs.declared.figures.Terms.{Terms}
-use Rattle.symbology.specs.declared.figures.StepCheck.{StepCheck}
-use Rattle.symbology.specs.declared.figures.StepCheck.the-variants as StepCheck
+use Rattle.symbology.specs.declared.figures.FiguresRead.{FiguresRead}
+use Rattle.symbology.specs.declared.figures.FiguresRead.the-variants as FiguresRead
 use Rattle.bytes.proofs.Results.{through, passed}
 use Rattle.symbology.specs.declared.spans.BodyPlan.{BodyPlan}
 use Rattle.symbology.specs.declared.spans.BodyPlan.the-variants as BodyPlan
@@ -74,44 +74,46 @@ radials-there body {f} {from} {to} {at} p = rw (part-slice body from to (p .orde
 pub admit-room : (t : Terms) (na nc : ℕ) (f : Figures) → accepted tt ≡ admit t na nc f → (f .«n_radials» ≤ na) × (f .«n_radials» * f .«n_bins» ≤ nc)
 unfolding admit roomIn
 admit-room t na nc f h =
-    passed (not (asked t (f .packet))) _ _ tt (sym h) λ _ e₁.
-    through (stepOf (t .step)) _ tt e₁ λ _ _ e₂.
+    passed (not (asked (t .packets) (f .packet))) _ _ tt (sym h) λ _ e₁.
+    through (stepOf (t .packets)) _ tt e₁ λ _ _ e₂.
     passed (ltb na (f .«n_radials»)) _ _ tt e₂ λ a e₃.
     passed (ltb nc (f .«n_radials» * f .«n_bins»)) _ _ tt e₃ λ b _.
     (ltb-false _ _ a, ltb-false _ _ b)
 
--- the other way: where the packet is asked for and the step passed, the room decides
-pub admit-fine : (t : Terms) (na nc : ℕ) (f : Figures) {asks : Bool} {r : Result (Unit {0})} → asks ≡ asked t (f .packet) → not asks ≡ false
-    → t .step ≡ StepCheck.Passed → r ≡ roomIn t na nc (f .«n_radials») (f .«n_radials» * f .«n_bins») → r ≡ admit t na nc f
+-- the other way: where the packet is asked for and the step passes, the room decides; else the step
+pub admit-step : (t : Terms) (na nc : ℕ) (f : Figures) {asks : Bool} {c : Result (Unit {0})} → asks ≡ asked (t .packets) (f .packet) → not asks ≡ false
+    → c ≡ stepOf (t .packets) → then c (λ _. roomIn t na nc (f .«n_radials») (f .«n_radials» * f .«n_bins»)) ≡ admit t na nc f
 unfolding admit
-admit-fine t na nc f a y i h = rw (← a) (simp y (h ∙ sym (ap (λ c. then (stepOf c) λ _. roomIn t na nc (f .«n_radials») (f .«n_radials» * f .«n_bins»)) i)))
+admit-step t na nc f a y i = rw (← a, i) (simp y)
 
 -- the figures, and the buffers that held az and cs
-abbrev Answered : Result Picture → List Float → List ℕ → Result Figures → List Float → List ℕ → Type 0
-Answered d az cs r az' cs' = (r ≡ figuresIn d) × ((az' ≡ lent d (λ p. p .azimuths) az) × (cs' ≡ lent d (λ p. p .codes) cs))
-
-answered : {d d' : Result Picture} (az : List Float) (cs : List ℕ) → d ≡ d' → Answered d' az cs (figuresIn d) (lent d (λ p. p .azimuths) az) (lent d (λ p. p .codes) cs)
-answered az cs e = (ap figuresIn e, (ap (λ d. lent d (λ p. p .azimuths) az) e, ap (λ d. lent d (λ p. p .codes) cs) e))
+answered : {e : ℕ → ℕ → Result Picture} {d : Result Picture} (az : List Float) (cs : List ℕ) {r : FiguresRead} → d ≡ e (length az) (length cs) → figuresOf r ≡ figuresIn d
+    → {az' : List Float} {cs' : List ℕ} → az' ≡ lent d (λ p. p .azimuths) az → cs' ≡ lent d (λ p. p .codes) cs → Decodes e az az' cs cs' r
+answered az cs e i a c =
+    record {
+      answered = i ∙ ap figuresIn e;
+      azimuths = a ∙ ap (λ d. lent d (λ p. p .azimuths) az) e;
+      codes = c ∙ ap (λ d. lent d (λ p. p .codes) cs) e;
+    }
 
 module _ (t : Terms) (body : List ℕ) (az : List Float) (cs : List ℕ) where
-  abbrev Decoded : Result Figures → List Float → List ℕ → Type 0
-  Decoded = Answered (decodeFor t body (length az) (length cs)) az cs
+  abbrev Decoded : List Float → List ℕ → FiguresRead → Type 0
+  Decoded az' cs' = Decodes (decodeFor t body) az az' cs cs'
 
-  pub decode-refused : {x : Refusal} → refused x ≡ run symbology body 0 → Decoded (refused x) az cs
+  pub decode-refused : {x : Level3DecodeError} → refused (refusalOf x) ≡ run symbology body 0 → Decoded az cs (FiguresRead.Refused x)
   unfolding decodeFor
-  decode-refused {x} h = let d : refused x ≡ decodeFor t body (length az) (length cs) = rw (← picture-refused body h) refl in answered az cs d
+  decode-refused {x} h = let d : refused (refusalOf x) ≡ decodeFor t body (length az) (length cs) = rw (← picture-refused body h) refl in answered az cs d refl refl refl
 
   module _ {f : Figures} {from to at : ℕ} (p : Plotted f from to at body (run symbology body 0)) where
-    pub decode-halted : {x : Refusal} → refused x ≡ admit t (length az) (length cs) f → Decoded (refused x) az cs
+    pub decode-halted : {x : Level3DecodeError} → refused (refusalOf x) ≡ admit t (length az) (length cs) f → Decoded az cs (FiguresRead.Refused x)
     unfolding decodeFor
-    decode-halted {x} h = let d : refused x ≡ decodeFor t body (length az) (length cs) = rw (← picture-is body p, ← h) refl in answered az cs d
+    decode-halted {x} h = let d : refused (refusalOf x) ≡ decodeFor t body (length az) (length cs) = rw (← picture-is body p, ← h) refl in answered az cs d refl refl refl
 
     pub decode-is : {az' : List Float} {cs' : List ℕ} → accepted tt ≡ admit t (length az) (length cs) f
         → az' ≡ lent (radialsIn body f from to at) (λ g. g .value) az → cs' ≡ lent (radialsIn body f from to at) (λ g. joined (g .rows)) cs
-        → Decoded (accepted f) az' cs'
+        → Decoded az' cs' (FiguresRead.Value f)
     unfolding decodeFor
     decode-is h a c =
         let d : accepted (drawn f (p .radials)) ≡ decodeFor t body (length az) (length cs) = rw (← picture-is body p, ← h) refl in
-        let w = answered az cs d in
         let e = radials-there body p in
-        (w .0, (a ∙ ap (λ r. lent r (λ g. g .value) az) e ∙ w .1 .0, c ∙ ap (λ r. lent r (λ g. joined (g .rows)) cs) e ∙ w .1 .1))
+        answered az cs d refl (a ∙ ap (λ r. lent r (λ g. g .value) az) e) (c ∙ ap (λ r. lent r (λ g. joined (g .rows)) cs) e)

@@ -2,10 +2,13 @@
 use Prim.Native.Nat.{ℕ, _*_}
 use mathlib.Core.List.{List, [], _∷_, _++_}
 use mathlib.Core.Bool.{Bool, true, false, not}
+use mathlib.Core.Path.{_≡_}
 use lib.Dec.{ltb}
-use lib.Ieee.{Float}
+use lib.ListN.{length}
+use lib.Ieee.{Float, le}
+use Rattle.bytes.specs.Float.{f32}
 use Rattle.bytes.specs.Refusal.{kind, float, buffer, refusalOf}
-use Rattle.bytes.specs.Result.{Result, accepted, refused, refuse, then}
+use Rattle.bytes.specs.Result.{Result, accepted, refused, refuse, then, lent}
 use Rattle.bytes.specs.Reading.{run}
 use Rattle.bytes.specs.declared.error.Buffer.the-variants as Buffer
 use Rattle.symbology.specs.Symbology.{symbology}
@@ -13,8 +16,8 @@ use Rattle.symbology.specs.declared.figures.Figures.{Figures}
 use Rattle.symbology.specs.declared.figures.Packet.{Packet}
 use Rattle.symbology.specs.declared.figures.Packet.the-variants.{Packet16, PacketAf1f, Packet28}
 use Rattle.symbology.specs.declared.figures.Terms.{Terms}
-use Rattle.symbology.specs.declared.figures.StepCheck.{StepCheck}
-use Rattle.symbology.specs.declared.figures.StepCheck.the-variants as StepCheck
+use Rattle.symbology.specs.declared.figures.Packets.{Packets}
+use Rattle.symbology.specs.declared.figures.Packets.the-variants as Packets
 use Rattle.symbology.specs.declared.figures.Room.{Room}
 use Rattle.symbology.specs.declared.figures.Room.the-variants as Room
 use Rattle.symbology.specs.declared.figures.FiguresRead.{FiguresRead}
@@ -47,11 +50,15 @@ pictureOf body =
     then (run symbology body 0) λ g.
     accepted (record { figures = g .value .figures; azimuths = g .value .azimuths; codes = joined (g .rows) })
 
--- the packets that are asked for
-unfoldable pub asked : Terms → Packet → Bool
-asked t Packet16 = t .packet16
-asked t PacketAf1f = t .«packet_af1f»
-asked t Packet28 = t .packet28
+-- the packets that a group of schemes works on
+unfoldable pub asked : Packets → Packet → Bool
+asked packets PacketAf1f = true
+asked Packets.Af1fAlone Packet16 = false
+asked (Packets.Radial step) Packet16 = true
+asked Packets.Any Packet16 = true
+asked Packets.Af1fAlone Packet28 = false
+asked (Packets.Radial step) Packet28 = false
+asked Packets.Any Packet28 = true
 
 unfoldable pub tooFew : Room → ℕ → Bool
 tooFew Room.Unasked n = false
@@ -65,17 +72,17 @@ roomIn t na nc radials cells =
     (refuse (tooFew (t .physical) cells) (kind 36 (buffer Buffer.Physical ∷ []))
     (accepted tt)))
 
--- 9, with the step that the caller's test did not pass
-abbrev pub stepOf : StepCheck → Result (Unit {0})
-stepOf StepCheck.Passed = accepted tt
-stepOf (StepCheck.NotPositive x) = refused (kind 9 (float x ∷ []))
+-- 9: the step of halfword or float is at or below 0, which a NaN is not
+abbrev pub stepOf : Packets → Result (Unit {0})
+stepOf Packets.Af1fAlone = accepted tt
+stepOf (Packets.Radial step) = refuse (le step (f32 0 1)) (kind 9 (float step ∷ [])) (accepted tt)
+stepOf Packets.Any = accepted tt
 
--- What stands between a body's reading and its picture: 10 for a packet that is not asked for, 9 by the caller's test of the step, 36.
--- No row is looked at.
+-- What stands between a body's reading and its picture: 10, 9, 36. No row is looked at.
 unfoldable pub admit : Terms → ℕ → ℕ → Figures → Result (Unit {0})
 admit t na nc f =
-    refuse (not (asked t (f .packet))) (kind 10 [])
-    (then (stepOf (t .step)) λ _.
+    refuse (not (asked (t .packets) (f .packet))) (kind 10 [])
+    (then (stepOf (t .packets)) λ _.
     roomIn t na nc (f .«n_radials») (f .«n_radials» * f .«n_bins»))
 
 -- the reading of a body on terms
@@ -87,10 +94,16 @@ decodeFor t body na nc =
 
 -- every packet, and no more than the two buffers
 abbrev pub anyTerms : Terms
-anyTerms = record { packet16 = true; «packet_af1f» = true; packet28 = true; step = StepCheck.Passed; physical = Room.Unasked }
+anyTerms = record { packets = Packets.Any; physical = Room.Unasked }
 
 unfoldable pub decodeOf : List ℕ → ℕ → ℕ → Result Picture
 decodeOf = decodeFor anyTerms
 
 abbrev pub figuresIn : Result Picture → Result Figures
 figuresIn r = then r λ p. accepted (p .figures)
+
+-- A reading d of a body, by the lengths of two lent buffers that held az and cs: the answer, and what they hold after it.
+pub record Decodes (d : ℕ → ℕ → Result Picture) (az az' : List Float) (cs cs' : List ℕ) (answer : FiguresRead) : Type 0 where
+  pub answered : figuresOf answer ≡ figuresIn (d (length az) (length cs))
+  pub azimuths : az' ≡ lent (d (length az) (length cs)) (λ p. p .azimuths) az
+  pub codes : cs' ≡ lent (d (length az) (length cs)) (λ p. p .codes) cs

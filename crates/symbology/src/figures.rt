@@ -28,18 +28,20 @@ pub enum FiguresRead {
     Refused(Level3DecodeError),
 }
 
-// What a caller asks of a body: the packets that it can use, its own test of the step (9), room for the physical values.
-pub struct Terms {
-    pub packet16: bool,
-    pub packet_af1f: bool,
-    pub packet28: bool,
-    pub step: StepCheck,
-    pub physical: Room,
+// The schemes as document 01 groups them by the packets that they work on.
+pub enum Packets {
+    // Legacy.
+    Af1fAlone,
+    // Halfword and float, on 16 and AF1F; their step has to be above 0 (9).
+    Radial { step: f32 },
+    // Precipitation and class, on all three.
+    Any,
 }
 
-pub enum StepCheck {
-    Passed,
-    NotPositive(f32),
+// What a caller asks of a body: the packets that it can use, and room for the physical values.
+pub struct Terms {
+    pub packets: Packets,
+    pub physical: Room,
 }
 
 pub enum Room {

@@ -3,8 +3,8 @@ use crate::figures::Figures;
 use crate::figures::FiguresRead;
 use crate::figures::Geometry;
 use crate::figures::Packet;
+use crate::figures::Packets;
 use crate::figures::Room;
-use crate::figures::StepCheck;
 use crate::figures::Terms;
 use crate::radials::HeaderRead;
 use crate::spans::BodyPlan;
@@ -18,10 +18,9 @@ ghost use mathlib.Core.Bool.{_&&_};
 ghost use Prim.Native.Nat.{_*_, _≤_};
 ghost use lib.Dec.{eqb};
 ghost use lib.ListN.{length};
-ghost use Rattle.bytes.specs.Result.{lent};
 ghost use Rattle.bytes.specs.Reading.{run};
 ghost use Rattle.symbology.specs.Symbology.{radialPacket, genericPacket, bodyShort, symbology};
-ghost use Rattle.symbology.specs.Answers.{asked, tooFew, roomIn, admit, pictureOf, decodeFor, decodeOf, figuresIn, figuresOf, checkOf};
+ghost use Rattle.symbology.specs.Answers.{asked, tooFew, stepOf, roomIn, admit, pictureOf, decodeFor, decodeOf, figuresIn, figuresOf, checkOf, Decodes};
 ghost use Rattle.symbology.specs.Walk.{inPart, Plots};
 
 const RADIAL_PACKET_CODE: u16 = 16;
@@ -156,13 +155,38 @@ pub fn check(body: &[u8]) -> FiguresRead
     }
 }
 
-fn is_asked(terms: Terms, packet: Packet) -> bool
-    ensures { λ r. ⌜ r ≡ asked terms packet ⌝ }
+// 10 where it does not hold.
+fn is_asked(packets: Packets, packet: Packet) -> bool
+    ensures { λ r. ⌜ r ≡ asked packets packet ⌝ }
 {
     match packet {
-        Packet::Packet16 => terms.packet16,
-        Packet::PacketAf1f => terms.packet_af1f,
-        Packet::Packet28 => terms.packet28,
+        Packet::PacketAf1f => true,
+        Packet::Packet16 => match packets {
+            Packets::Af1fAlone => false,
+            Packets::Radial { step: _ } => true,
+            Packets::Any => true,
+        },
+        Packet::Packet28 => match packets {
+            Packets::Af1fAlone => false,
+            Packets::Radial { step: _ } => false,
+            Packets::Any => true,
+        },
+    }
+}
+
+// 9, of a step at or below 0; a NaN is not.
+fn test_step(packets: Packets) -> Check
+    ensures { λ r. ⌜ checkOf r ≡ stepOf packets ⌝ }
+{
+    match packets {
+        Packets::Af1fAlone => Check::Passed,
+        Packets::Any => Check::Passed,
+        Packets::Radial { step } => {
+            if step <= 0.0 {
+                return Check::Refused(Level3DecodeError::NonPositiveIncrement(step));
+            }
+            Check::Passed
+        }
     }
 }
 
@@ -204,13 +228,13 @@ fn test_terms(terms: Terms, azimuths: usize, codes: usize, figures: Figures) -> 
     ensures { λ r. ⌜ checkOf r ≡ admit terms azimuths codes figures ⌝ }
 {
     let packet = figures.packet;
-    if !is_asked(terms, packet) {
+    let packets = terms.packets;
+    if !is_asked(packets, packet) {
         return Check::Refused(Level3DecodeError::SchemeMismatch);
     }
-    let step = terms.step;
-    match step {
-        StepCheck::NotPositive(x) => Check::Refused(Level3DecodeError::NonPositiveIncrement(x)),
-        StepCheck::Passed => test_room(
+    match test_step(packets) {
+        Check::Refused(error) => Check::Refused(error),
+        Check::Passed => test_room(
             terms,
             azimuths,
             codes,
@@ -223,9 +247,8 @@ fn test_terms(terms: Terms, azimuths: usize, codes: usize, figures: Figures) -> 
 // The picture of a body on terms: its figures; in the front of the buffers the centres in degrees and the codes by row. A refusal
 // writes nothing.
 pub fn decode_for(body: &[u8], terms: Terms, azimuths: &mut [f64], codes: &mut [u16]) -> FiguresRead
-    ensures { λ r. ⌜ figuresOf r ≡ figuresIn (decodeFor terms (now (body .entry)) (length (now (azimuths .entry))) (length (now (codes .entry)))) ⌝ }
-    ensures { λ _. ⌜ now (azimuths .exit) ≡ lent (decodeFor terms (now (body .entry)) (length (now (azimuths .entry))) (length (now (codes .entry)))) (λ p. p .azimuths) (now (azimuths .entry)) ⌝ }
-    ensures { λ _. ⌜ now (codes .exit) ≡ lent (decodeFor terms (now (body .entry)) (length (now (azimuths .entry))) (length (now (codes .entry)))) (λ p. p .codes) (now (codes .entry)) ⌝ }
+    ensures { λ r. ⌜ Decodes (decodeFor terms (now (body .entry)))
+        (now (azimuths .entry)) (now (azimuths .exit)) (now (codes .entry)) (now (codes .exit)) r ⌝ }
 {
     match plan(body) {
         BodyPlan::Refused(error) => FiguresRead::Refused(error),
@@ -255,15 +278,11 @@ pub fn decode_for(body: &[u8], terms: Terms, azimuths: &mut [f64], codes: &mut [
 
 // The same of any packet.
 pub fn decode_symbology(body: &[u8], azimuths: &mut [f64], codes: &mut [u16]) -> FiguresRead
-    ensures { λ r. ⌜ figuresOf r ≡ figuresIn (decodeOf (now (body .entry)) (length (now (azimuths .entry))) (length (now (codes .entry)))) ⌝ }
-    ensures { λ _. ⌜ now (azimuths .exit) ≡ lent (decodeOf (now (body .entry)) (length (now (azimuths .entry))) (length (now (codes .entry)))) (λ p. p .azimuths) (now (azimuths .entry)) ⌝ }
-    ensures { λ _. ⌜ now (codes .exit) ≡ lent (decodeOf (now (body .entry)) (length (now (azimuths .entry))) (length (now (codes .entry)))) (λ p. p .codes) (now (codes .entry)) ⌝ }
+    ensures { λ r. ⌜ Decodes (decodeOf (now (body .entry)))
+        (now (azimuths .entry)) (now (azimuths .exit)) (now (codes .entry)) (now (codes .exit)) r ⌝ }
 {
     let terms = Terms {
-        packet16: true,
-        packet_af1f: true,
-        packet28: true,
-        step: StepCheck::Passed,
+        packets: Packets::Any,
         physical: Room::Unasked,
     };
     decode_for(body, terms, azimuths, codes)
