@@ -1,6 +1,7 @@
 pub mod Order
 pub mod RowLaws
 pub mod Parts
+pub mod Codes
 pub mod Lowest
 pub mod Demand3
 pub mod TwoRuns

@@ -4,14 +4,21 @@ use native.Mathlib.Omega.{arith}
 use native.Mathlib.Nat.{not-suc-le-zero}
 use native.Mathlib.Decide.{decLt, ℕ-discrete}
 use mathlib.Core.List.{List}
-use mathlib.Core.Logic.{_⊎_, inl, inr, ⊎-elim, Dec·not, Dec·and, Dec·not-not}
-use mathlib.Core.Path.{_≡_, refl, sym, _∙_}
+use mathlib.Core.Bool.{Bool-discrete}
+use mathlib.Core.Logic.{_⊎_, inl, inr, ⊎-elim, Dec·not, Dec·and, Dec·not-not, Dec·of-iff}
+use mathlib.Core.Path.{_≡_, refl}
 use lib.ListN.{getD}
 use Rattle.bytes.specs.Result.{Result, accepted, refused}
-use Rattle.symbology.specs.Damage.{Changed, MakesRow, rowIn, radialAt}
-use Rattle.symbology.specs.Symbology.{symbology}
+use Rattle.symbology.specs.declared.figures.Packet.{Packet}
+use Rattle.symbology.specs.declared.figures.Packet.the-variants.{Packet16, PacketAf1f, Packet28}
+use Rattle.symbology.specs.declared.figures.Figures.{Figures}
+use Rattle.symbology.specs.Rows.{rowAF1F}
+use Rattle.symbology.specs.Levels.{InRange}
+use Rattle.symbology.specs.Words.{dataPlace, dataOf, ChangedIn}
+use Rattle.sweep.specs.InWords.{RowInWords}
 use Rattle.sweep.specs.Demand3.{LowestBad}
 use Rattle.bytes.proofs.Results.{clash}
+use Rattle.symbology.proofs.Runs.{row-of-runs}
 
 -- the first number that has P, and it is below n
 abbrev First : (ℕ → Type 0) → ℕ → Type 0
@@ -32,25 +39,37 @@ module _ (P : ℕ → Type 0) (dec : (i : ℕ) → Dec (P i)) where
           by i lt h (yes l) = none i l h
           by i lt h (no l) = let e : i ≡ n = omega arith in k (rw e at h)
 
-module _ (b b' : List ℕ) where
-  makes? : (r : ℕ) → Dec (MakesRow symbology b b' r)
-  makes? r = by (rowIn (radialAt symbology b r) b') refl
-    where
-      by : (z : Result (List ℕ)) → rowIn (radialAt symbology b r) b' ≡ z → Dec (MakesRow symbology b b' r)
-      by (accepted codes) e = yes (codes, e)
-      by (refused x) e = no (λ m. clash (m .0) x (sym e ∙ m .1))
+made? : {A : Type 0} (z : Result A) → Dec ((a : A) × (z ≡ accepted a))
+made? (accepted a) = yes (a, refl)
+made? (refused x) = no (λ m. clash (m .0) x (m .1))
 
-  changed? : (r : ℕ) → Dec (Changed symbology b b' r)
-  changed? r =
-      ⊎-elim (λ none. no (λ c. let e : p + (c .at - p) ≡ c .at = omega (arith, c .data-byte .0) in none (c .at - p) (omega (arith, c .data-byte .0, c .data-byte .1)) (rw e (c .differs))))
-      (λ (i, lt, ne, low). yes (record { at = p + i; data-byte = (omega arith, omega arith); differs = ne }))
-      (first (λ i. ¬ (getD b (p + i) 0 ≡ getD b' (p + i) 0)) (λ i. Dec·not (ℕ-discrete (getD b (p + i) 0) (getD b' (p + i) 0))) (radialAt symbology b r .count))
-    where
-      p : ℕ
-      p = radialAt symbology b r .start
+in-range? : (bytes : List ℕ) (k : ℕ) → Dec (InRange bytes k)
+in-range? bytes k = Dec·and (Bool-discrete _ _) (Bool-discrete _ _)
 
-  pub lowest-bad : (n : ℕ) → ((r : ℕ) × (r < n) × Changed symbology b b' r × ¬ (MakesRow symbology b b' r)) → (r : ℕ) × LowestBad n b b' r
-  lowest-bad n (r, lt, c, k) =
+pub makes? : (packet : Packet) (bins : ℕ) (bytes : List ℕ) → Dec (RowInWords packet bins bytes)
+unfolding RowInWords
+makes? Packet16 bins bytes = yes tt
+makes? PacketAf1f bins bytes = Dec·of-iff (row-of-runs bins 0 bytes .row) (made? (rowAF1F bins 0 bytes))
+makes? Packet28 bins bytes =
+    ⊎-elim (λ none. yes (λ k lt. Dec·not-not (in-range? bytes k) .0 (none k lt))) (λ (k, lt, out, low). no (λ every. out (every k lt)))
+    (first (λ k. ¬ (InRange bytes k)) (λ k. Dec·not (in-range? bytes k)) bins)
+
+changed? : (packet : Packet) (b b' : List ℕ) (r : ℕ) → Dec (ChangedIn packet b b' r)
+changed? packet b b' r =
+    ⊎-elim (λ none. no (λ (i, (from, to), ne). let e : p + (i - p) ≡ i = omega arith in none (i - p) (omega arith) (rw e ne)))
+    (λ (i, lt, ne, low). yes (p + i, (omega arith, omega arith), ne))
+    (first (λ i. ¬ (getD b (p + i) 0 ≡ getD b' (p + i) 0)) (λ i. Dec·not (ℕ-discrete (getD b (p + i) 0) (getD b' (p + i) 0))) (dataPlace packet b r .1))
+  where
+    p : ℕ
+    p = dataPlace packet b r .0
+
+module _ (f : Figures) (b b' : List ℕ) where
+  row? : (r : ℕ) → Dec (RowInWords (f .packet) (f .«n_bins») (dataOf (f .packet) b r b'))
+  row? r = makes? (f .packet) (f .«n_bins») (dataOf (f .packet) b r b')
+
+  pub lowest-bad : ((r : ℕ) × (r < f .«n_radials») × ChangedIn (f .packet) b b' r × ¬ (RowInWords (f .packet) (f .«n_bins») (dataOf (f .packet) b r b')))
+      → (r : ℕ) × LowestBad f b b' r
+  lowest-bad (r, lt, c, k) =
       ⊎-elim (λ none. absurd (none r lt (c, k)))
-      (λ (i, lt, (c, k), low). (i, record { inside = lt; changed = c; no-row = k; lower = λ q l h. Dec·not-not (makes? q) .0 (λ m. low q l (h, m)) }))
-      (first (λ r. Changed symbology b b' r × ¬ (MakesRow symbology b b' r)) (λ r. Dec·and (changed? r) (Dec·not (makes? r))) n)
+      (λ (i, lt, (c, k), low). (i, record { inside = lt; changed = c; no-row = k; lower = λ q l h. Dec·not-not (row? q) .0 (λ m. low q l (h, m)) }))
+      (first (λ r. ChangedIn (f .packet) b b' r × ¬ (RowInWords (f .packet) (f .«n_bins») (dataOf (f .packet) b r b'))) (λ r. Dec·and (changed? (f .packet) b b' r) (Dec·not (row? r))) (f .«n_radials»))

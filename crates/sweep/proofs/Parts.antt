@@ -1,10 +1,11 @@
 -- An accepted sweep: the head, the body and the picture that it came from, and how many places it fills. Assumes nothing.
 use Prim.Native.Nat.{ℕ, _+_, _*_}
 use mathlib.Core.List.{List, map}
-use mathlib.Core.Bool.{not}
+use mathlib.Core.Bool.{true, not}
 use mathlib.Core.Path.{_≡_, refl, sym, ap, _∙_, subst}
 use lib.ListN.{length, length-map}
 use lib.Ieee.{Float}
+use borrow.Author.Tests.{not-false}
 use Rattle.bytes.specs.Result.{accepted}
 use Rattle.bytes.specs.Reading.{Given, run}
 use Rattle.head.specs.Header.{token, messageHeader, scanTime}
@@ -54,6 +55,8 @@ module _ (scheme : Scheme) (file : List ℕ) (clock : ℕ) (na nc np : ℕ) wher
     pub azimuths : body .value .azimuths ≡ p .azimuths
     pub codes : joined (body .rows) ≡ p .codes
     pub physical : p .physical ≡ map (physicalOf scheme file (head .block)) (p .codes)
+    -- the scheme works on the packet
+    pub works : allowed scheme (p .sweep .figures .packet) ≡ true
     -- what stands after the symbology looks at no code
     pub finishes : (l : List ℕ) → finish scheme file na nc np head (picture p l) ≡ accepted (with-codes (physicalOf scheme file (head .block)) p l)
 
@@ -76,6 +79,7 @@ module _ (scheme : Scheme) (file : List ℕ) (clock : ℕ) (na nc np : ℕ) wher
         azimuths = cc;
         codes = cc;
         physical = refl;
+        works = not-false _ t;
         finishes = λ l. rw (t, ed, eu);
       })
 

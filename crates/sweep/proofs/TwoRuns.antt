@@ -1,6 +1,7 @@
 -- Demand 3, from the sweep reading to two runs of the code. Assumes nothing.
 use Prim.Native.Nat.{ℕ, _<_}
 use mathlib.Core.List.{List, map}
+use mathlib.Core.Logic.{_↔_}
 use mathlib.Core.Path.{_≡_, sym, ap, _∙_, subst}
 use lib.ListN.{length, take, drop}
 use lib.Seq.{take-at}
@@ -8,15 +9,16 @@ use Rattle.bytes.specs.Refusal.{Refusal}
 use Rattle.bytes.specs.Result.{Result, accepted, refused, then}
 use Rattle.scale.specs.declared.physical.Scheme.{Scheme}
 use Rattle.symbology.specs.declared.figures.Figures.{Figures}
+use Rattle.symbology.specs.Words.{Bytes, DamageInWords}
 use Rattle.sweep.specs.declared.sweep.Sweep.{Sweep}
 use Rattle.sweep.specs.declared.sweep.SweepAnswer.{SweepAnswer}
 use Rattle.sweep.specs.declared.sweep.SweepAnswer.the-variants as SweepAnswer
 use Rattle.sweep.specs.Sweep.{Accepted, sweepOf, answerOf}
-use Rattle.sweep.specs.Demand3.{rowAt, Damaged, Refuses, RowsKept, Kept, Buffers, readInto, Ran, SameLengths, TwoRuns}
+use Rattle.sweep.specs.Demand3.{rowAt, RowsKept, Kept, Buffers, readInto, Ran, SameLengths, TwoRuns}
 use Rattle.sweep.proofs.RowLaws.{row-front}
 use Rattle.bytes.proofs.Results.{clash, through}
 use Rattle.sweep.proofs.Parts.{sizes}
-use Rattle.sweep.proofs.Demand3.{demand3}
+use Rattle.sweep.proofs.Demand3.{passed-on, demand3}
 
 -- what a run left in the first places, where the sweep reading accepted with p
 record Left (f : Figures) (p : Accepted) (new : Buffers) : Type 0 where
@@ -54,30 +56,18 @@ answer-is : (answer : SweepAnswer) (s : Sweep) → answerOf answer ≡ accepted 
 answer-is (SweepAnswer.Accepted t) s e = let q : t ≡ s = cc in ap SweepAnswer.Accepted q
 answer-is (SweepAnswer.Refused x) s e = clash s _ e
 
-module _ {A B : Type 0} (f : Figures) (b b' : List ℕ) (r : Result A) (answer : Result B) (h : A → B) (is : answer ≡ then r λ a. accepted (h a)) where
-  refused→ : (x : Refusal) → r ≡ refused x → answer ≡ refused x
-  refused→ x e = is ∙ rw e
-
-  refused← : (x : Refusal) → answer ≡ refused x → r ≡ refused x
-  refused← x e = by r (sym is ∙ e)
-    where
-      by : (r : Result A) → then r (λ a. accepted (h a)) ≡ refused x → r ≡ refused x
-      by (accepted a) k = clash (h a) x (sym k)
-      by (refused y) k = cc
-
-  -- an answer that only passes a refusal on
-  passed-on : Refuses f b b' r → Refuses f b b' answer
-  passed-on k =
-      record {
-        exactly = (λ w. k .exactly .0 (w .0, refused← (w .0) (w .1)), λ w. let e = k .exactly .1 w in (e .0, refused→ (e .0) (e .1)));
-        one-is-lowest = λ x e. k .one-is-lowest x (refused← x e);
-        lowest = λ n l. let e = k .lowest n l in (e .0, refused→ (e .0) (e .1), e .2, e .3);
-      }
+-- an answer that only hands a result on is refused as it is
+handed-on : {A B : Type 0} (r : Result A) (answer : Result B) (h : A → B) → answer ≡ then r (λ a. accepted (h a)) → (x : Refusal) → (r ≡ refused x) ↔ (answer ≡ refused x)
+handed-on {A = A} r answer h is x = (λ e. is ∙ rw e, λ e. by r (sym is ∙ e))
+  where
+    by : (r : Result A) → then r (λ a. accepted (h a)) ≡ refused x → r ≡ refused x
+    by (accepted a) k = clash (h a) x (sym k)
+    by (refused y) k = cc
 
 pub two-runs : (scheme : Scheme) (file : List ℕ) (clock : ℕ) (b b' : List ℕ) (s : Sweep) (old new old' new' : Buffers) (answer' : SweepAnswer)
     → Ran scheme file clock b old new (SweepAnswer.Accepted s) → Ran scheme file clock b' old' new' answer' → SameLengths old old'
-    → Damaged b (s .figures) b' → TwoRuns scheme file b b' s new new' answer'
-two-runs scheme file clock b b' s old new old' new' answer' ran ran' same d =
+    → Bytes b' → DamageInWords b (s .figures) b' → TwoRuns scheme file b b' s new new' answer'
+two-runs scheme file clock b b' s old new old' new' answer' ran ran' same small d =
     through (readInto scheme file clock b old) _ s (sym (ran .answered)) λ p acc e.
     let is : p .sweep ≡ s = cc in
     subst (λ (s : Sweep). TwoRuns scheme file b b' s new new' answer') is (from p acc (rw (← is) at d))
@@ -86,11 +76,11 @@ two-runs scheme file clock b b' s old new old' new' answer' ran ran' same d =
     again : readInto scheme file clock b' old' ≡ sweepOf scheme file clock b' (length (old .azimuths)) (length (old .codes)) (length (old .physical))
     again = rw (same .azimuths, same .codes, same .physical)
 
-    from : (p : Accepted) → readInto scheme file clock b old ≡ accepted p → Damaged b (p .sweep .figures) b' → TwoRuns scheme file b b' (p .sweep) new new' answer'
+    from : (p : Accepted) → readInto scheme file clock b old ≡ accepted p → DamageInWords b (p .sweep .figures) b' → TwoRuns scheme file b b' (p .sweep) new new' answer'
     from p acc d =
-        let k = demand3 scheme file clock b b' _ _ _ p acc d in
+        let k = demand3 scheme file clock b b' _ _ _ p acc small d in
         record {
-          refusal = passed-on _ b b' _ _ (λ p. p .sweep) (ran' .answered ∙ rw again) (k .refusal);
+          refusal = passed-on _ b b' _ _ (handed-on _ _ (λ p. p .sweep) (ran' .answered ∙ rw again)) (k .refusal);
           otherwise = λ every. kept (k .otherwise every);
         }
       where

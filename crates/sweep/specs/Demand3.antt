@@ -1,5 +1,6 @@
 -- Demand 3, whole: "A radial's damage stays in its row." Two bodies are read with the same file bytes, clock, scheme and buffer lengths;
--- the first's sweep is accepted, and the second differs from it just in data bytes of radials and in unread bytes.
+-- the first's sweep is accepted, and the second differs from it just in data bytes of radials and in unread bytes. All is said in document
+-- 01's words: "differs just in" is symbology's `DamageInWords`, "changed" its `ChangedIn`, a radial's data `dataOf`, "make a row" `RowInWords`.
 use Prim.Native.Nat.{ℕ, _+_, _*_, _<_}
 use mathlib.Core.List.{List, [], _∷_, map}
 use mathlib.Core.Logic.{_↔_}
@@ -17,29 +18,23 @@ use Rattle.symbology.specs.declared.figures.Packet.{Packet}
 use Rattle.symbology.specs.declared.figures.Packet.the-variants.{Packet16, PacketAf1f, Packet28}
 use Rattle.symbology.specs.declared.figures.Figures.{Figures}
 use Rattle.symbology.specs.Rows.{rowOf, reach, words, isLevel}
-use Rattle.symbology.specs.Symbology.{symbology}
-use Rattle.symbology.specs.Damage.{Changed, MakesRow, dataIn}
-use Rattle.symbology.specs.Words.{DamageInWords}
+use Rattle.symbology.specs.Words.{dataOf, ChangedIn}
 use Rattle.sweep.specs.declared.sweep.Sweep.{Sweep}
 use Rattle.sweep.specs.declared.sweep.SweepAnswer.{SweepAnswer}
 use Rattle.sweep.specs.declared.sweep.SweepAnswer.the-variants as SweepAnswer
 use Rattle.sweep.specs.Sweep.{Accepted, sweepOf, answerOf}
+use Rattle.sweep.specs.InWords.{RowInWords}
 
 -- row r of a buffer by rows
 abbrev pub rowAt : {A : Type 0} → ℕ → ℕ → List A → List A
 rowAt bins r xs = take bins (drop (r * bins) xs)
 
--- b' has the length of b, an accepted body with these figures, and differs from it just in data bytes of radials and in unread bytes
--- (document 01's words, which say nothing of azimuths)
-abbrev pub Damaged : List ℕ → Figures → List ℕ → Type 0
-Damaged b f b' = DamageInWords b (record { figures = f; azimuths = [] }) b'
-
--- Of n radials r is the lowest that is changed (one of its data bytes differs) and whose data no longer make a row.
-pub record LowestBad (n : ℕ) (b b' : List ℕ) (r : ℕ) : Type 0 where
-  pub inside : r < n
-  pub changed : Changed symbology b b' r
-  pub no-row : ¬ (MakesRow symbology b b' r)
-  pub lower : (q : ℕ) → q < r → Changed symbology b b' q → MakesRow symbology b b' q
+-- Of the radials of b, an accepted body with the figures f, r is the lowest that is changed in b' and whose data there make no row.
+pub record LowestBad (f : Figures) (b b' : List ℕ) (r : ℕ) : Type 0 where
+  pub inside : r < f .«n_radials»
+  pub changed : ChangedIn (f .packet) b b' r
+  pub no-row : ¬ (RowInWords (f .packet) (f .«n_bins») (dataOf (f .packet) b r b'))
+  pub lower : (q : ℕ) → q < r → ChangedIn (f .packet) b b' q → RowInWords (f .packet) (f .«n_bins») (dataOf (f .packet) b q b')
 
 -- the first gate whose integer is not from 0 to 65,535
 abbrev pub firstBadGate : List ℕ → ℕ
@@ -56,32 +51,33 @@ Names Packet28 bins r bytes x =
 -- When a second body b' is refused, and how. The first, b, has the figures f; `result` is what the second gives.
 pub record Refuses {A : Type 0} (f : Figures) (b b' : List ℕ) (result : Result A) : Type 0 where
   -- refused exactly when some changed radial's data no longer make a row
-  pub exactly : ((x : Refusal) × (result ≡ refused x)) ↔ ((r : ℕ) × (r < f .«n_radials») × Changed symbology b b' r × ¬ (MakesRow symbology b b' r))
+  pub exactly : ((x : Refusal) × (result ≡ refused x))
+      ↔ ((r : ℕ) × (r < f .«n_radials») × ChangedIn (f .packet) b b' r × ¬ (RowInWords (f .packet) (f .«n_bins») (dataOf (f .packet) b r b')))
   -- there is then a lowest such radial
-  pub one-is-lowest : (x : Refusal) → result ≡ refused x → (r : ℕ) × LowestBad (f .«n_radials») b b' r
+  pub one-is-lowest : (x : Refusal) → result ≡ refused x → (r : ℕ) × LowestBad f b b' r
   -- and the refusal is the one that document 01 defines for it, naming it
-  pub lowest : (r : ℕ) → LowestBad (f .«n_radials») b b' r
+  pub lowest : (r : ℕ) → LowestBad f b b' r
       → (x : Refusal) × (result ≡ refused x)
-      × (rowOf (f .packet) (f .«n_bins») r (dataIn symbology b r b') ≡ refused x)
-      × Names (f .packet) (f .«n_bins») r (dataIn symbology b r b') x
+      × (rowOf (f .packet) (f .«n_bins») r (dataOf (f .packet) b r b') ≡ refused x)
+      × Names (f .packet) (f .«n_bins») r (dataOf (f .packet) b r b') x
 
 -- every changed radial's data make a row
 abbrev pub AllMake : Figures → List ℕ → List ℕ → Type 0
-AllMake f b b' = (r : ℕ) → r < f .«n_radials» → Changed symbology b b' r → MakesRow symbology b b' r
+AllMake f b b' = (r : ℕ) → r < f .«n_radials» → ChangedIn (f .packet) b b' r → RowInWords (f .packet) (f .«n_bins») (dataOf (f .packet) b r b')
 
 -- What the rows of b' have to do with those of b, where every changed radial's data make a row: `codes'` and `physical'` hold the rows of
 -- b', `codes` and `physical` those of b.
 pub record RowsKept (scheme : Scheme) (file : List ℕ) (f : Figures) (b b' : List ℕ) (codes codes' : List ℕ) (physical physical' : List Float) : Type 0 where
   -- an unchanged row equals the first's
-  pub unchanged : (r : ℕ) → r < f .«n_radials» → ¬ (Changed symbology b b' r)
+  pub unchanged : (r : ℕ) → r < f .«n_radials» → ¬ (ChangedIn (f .packet) b b' r)
       → (rowAt (f .«n_bins») r codes' ≡ rowAt (f .«n_bins») r codes) × (rowAt (f .«n_bins») r physical' ≡ rowAt (f .«n_bins») r physical)
   -- a changed row is the one its own data make
-  pub changed : (r : ℕ) → r < f .«n_radials» → Changed symbology b b' r
-      → rowOf (f .packet) (f .«n_bins») r (dataIn symbology b r b') ≡ accepted (rowAt (f .«n_bins») r codes')
+  pub changed : (r : ℕ) → r < f .«n_radials» → ChangedIn (f .packet) b b' r
+      → rowOf (f .packet) (f .«n_bins») r (dataOf (f .packet) b r b') ≡ accepted (rowAt (f .«n_bins») r codes')
   -- its physical values are those its codes have under the scheme and the file bytes; the block starts at message header + 18
   pub header : ℕ
   pub header-is : messageHeader file ≡ accepted header
-  pub values : (r : ℕ) → r < f .«n_radials» → Changed symbology b b' r
+  pub values : (r : ℕ) → r < f .«n_radials» → ChangedIn (f .packet) b b' r
       → rowAt (f .«n_bins») r physical' ≡ map (physicalOf scheme file (header + 18)) (rowAt (f .«n_bins») r codes')
 
 -- ---- for the definition of the sweep reading

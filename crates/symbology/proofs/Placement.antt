@@ -165,7 +165,7 @@ old-unread PacketAf1f beams e i old none radials b h =
 old-unread Packet28 beams e i old none radials b h = absurd (old refl)
 
 module _ (b : List ℕ) (a : Sweep) (r : Reached symbology b 0 (Body b) a) where
-  old-placed : (packet : Packet) → packet ≢ Packet28 → Old b packet a (r .past) (frames symbology b 0) (r .holds .later) → Placed b a
+  old-placed : (packet : Packet) → packet ≢ Packet28 → Old b packet a (r .past) (frames symbology b 0) (r .holds .later) → Placed b (a .figures)
   unfolding radialCount radialAt frameAt
   old-placed packet old o =
       let bins = a .figures .«n_bins» in
@@ -184,7 +184,7 @@ module _ (b : List ℕ) (a : Sweep) (r : Reached symbology b 0 (Body b) a) where
         data28 = λ n. absurd (old (sym (o .is) ∙ n));
       }
 
-  new-placed : Generic b a (r .past) (frames symbology b 0) (r .holds .later) → Placed b a
+  new-placed : Generic b a (r .past) (frames symbology b 0) (r .holds .later) → Placed b (a .figures)
   unfolding radialCount radialAt Generic Rows28 Enough rowOf
   new-placed o =
       let bins = a .figures .«n_bins» in
@@ -207,12 +207,12 @@ module _ (b : List ℕ) (a : Sweep) (r : Reached symbology b 0 (Body b) a) where
       }
 
   by-packet : Old b Packet16 a (r .past) (frames symbology b 0) (r .holds .later)
-      ⊎ (Old b PacketAf1f a (r .past) (frames symbology b 0) (r .holds .later) ⊎ Generic b a (r .past) (frames symbology b 0) (r .holds .later)) → Placed b a
+      ⊎ (Old b PacketAf1f a (r .past) (frames symbology b 0) (r .holds .later) ⊎ Generic b a (r .past) (frames symbology b 0) (r .holds .later)) → Placed b (a .figures)
   by-packet (inl o) = old-placed Packet16 no28 o
   by-packet (inr (inl o)) = old-placed PacketAf1f no28' o
   by-packet (inr (inr o)) = new-placed o
 
-pub placed : (b : List ℕ) (g : Given Sweep) → run symbology b 0 ≡ accepted g → Placed b (g .value)
+pub placed : (b : List ℕ) (g : Given Sweep) → run symbology b 0 ≡ accepted g → Placed b (g .value .figures)
 placed b g acc =
     let r = reached symbology b 0 (Body b) g (at-body b) acc in
     by-packet b (g .value) r (r .holds .one-of)

@@ -9,9 +9,10 @@ use Rattle.bytes.specs.Reading.{Frame, Unread, Piece, as-number, as-unread, as-
 use Rattle.xdr.specs.Xdr.{padding, atLeast0}
 use Rattle.symbology.specs.declared.figures.Packet.{Packet}
 use Rattle.symbology.specs.declared.figures.Packet.the-variants.{Packet16, PacketAf1f, Packet28}
+use Rattle.symbology.specs.declared.figures.Figures.{Figures}
 use Rattle.symbology.specs.Rows.{rowOf}
 use Rattle.symbology.specs.Damage.{radialCount, radialAt}
-use Rattle.symbology.specs.Symbology.{Sweep, covered, symbology}
+use Rattle.symbology.specs.Symbology.{covered, symbology}
 
 -- ---- packets 16 and AF1F: byte numbers
 
@@ -20,10 +21,13 @@ unfoldable pub place : Packet → List ℕ → ℕ → ℕ
 place packet b zero = 30
 place packet b (suc r) = place packet b r + 6 + covered packet (u16At b (place packet b r))
 
--- its frame: six bytes, then what its count covers
+-- its data, start and size: after its six bytes, what its count covers
+abbrev pub counted : Packet → List ℕ → ℕ → ℕ × ℕ
+counted packet b r = (place packet b r + 6, covered packet (u16At b (place packet b r)))
+
+-- its frame
 unfoldable pub frameAt : Packet → ℕ → List ℕ → ℕ → Frame
-frameAt packet bins b r =
-    record { start = place packet b r + 6; count = covered packet (u16At b (place packet b r)); row = rowOf packet bins r }
+frameAt packet bins b r = record { start = counted packet b r .0; count = counted packet b r .1; row = rowOf packet bins r }
 
 -- the unread bytes: 4-15, 22-25, all after the last radial; AF1F 18-19
 unfoldable pub UnreadByte : Packet → ℕ → List ℕ → ℕ → Type 0
@@ -153,21 +157,21 @@ Enough Packet16 bins count = bins ≤ count
 Enough PacketAf1f bins count = Unit {0}
 Enough Packet28 bins count = count ≡ bins * 4
 
--- What the places of an accepted body are.
-pub record Placed (b : List ℕ) (a : Sweep) : Type 0 where
+-- What the places of an accepted body with the figures f are.
+pub record Placed (b : List ℕ) (f : Figures) : Type 0 where
   -- as many radials as the body says, each with the row of its packet, its own number in its refusal
-  pub count : radialCount symbology b ≡ a .figures .«n_radials»
-  pub rows : (r : ℕ) → r < a .figures .«n_radials» → radialAt symbology b r .row ≡ rowOf (a .figures .packet) (a .figures .«n_bins») r
+  pub count : radialCount symbology b ≡ f .«n_radials»
+  pub rows : (r : ℕ) → r < f .«n_radials» → radialAt symbology b r .row ≡ rowOf (f .packet) (f .«n_bins») r
   -- each has data for its row
-  pub enough : (r : ℕ) → r < a .figures .«n_radials» → Enough (a .figures .packet) (a .figures .«n_bins») (radialAt symbology b r .count)
+  pub enough : (r : ℕ) → r < f .«n_radials» → Enough (f .packet) (f .«n_bins») (radialAt symbology b r .count)
   -- packets 16 and AF1F, in figures
-  pub frames : a .figures .packet ≢ Packet28 → (r : ℕ) → r < a .figures .«n_radials»
-      → radialAt symbology b r ≡ frameAt (a .figures .packet) (a .figures .«n_bins») b r
-  pub unread : a .figures .packet ≢ Packet28 → (i : ℕ) → Unread symbology b 0 i ↔ UnreadByte (a .figures .packet) (a .figures .«n_radials») b i
+  pub frames : f .packet ≢ Packet28 → (r : ℕ) → r < f .«n_radials»
+      → radialAt symbology b r ≡ frameAt (f .packet) (f .«n_bins») b r
+  pub unread : f .packet ≢ Packet28 → (i : ℕ) → Unread symbology b 0 i ↔ UnreadByte (f .packet) (f .«n_radials») b i
   -- packet 28, item by item: what is read, unread and data, in order
-  pub items : a .figures .packet ≡ Packet28 → pieces symbology b 0 ≡ marks b
+  pub items : f .packet ≡ Packet28 → pieces symbology b 0 ≡ marks b
   -- a byte is unread where its item is, or past the payload
-  pub unread28 : a .figures .packet ≡ Packet28 → (i : ℕ) → i < length b → Unread symbology b 0 i ↔ (UnreadIn (marks b) 0 i ⊎ (24 + u32At b 20 ≤ i))
+  pub unread28 : f .packet ≡ Packet28 → (i : ℕ) → i < length b → Unread symbology b 0 i ↔ (UnreadIn (marks b) 0 i ⊎ (24 + u32At b 20 ≤ i))
   -- and a radial's data are the integers of its array
-  pub data28 : a .figures .packet ≡ Packet28 → (r : ℕ) → r < a .figures .«n_radials»
+  pub data28 : f .packet ≡ Packet28 → (r : ℕ) → r < f .«n_radials»
       → getD (dataPlaces (marks b) 0) r (0, 0) ≡ (radialAt symbology b r .start, radialAt symbology b r .count)
