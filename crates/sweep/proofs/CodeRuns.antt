@@ -16,7 +16,8 @@ use Rattle.symbology.specs.Words.{Bytes, DamageInWords}
 use Rattle.sweep.specs.declared.sweep.Sweep.{Sweep}
 use Rattle.sweep.specs.declared.sweep.SweepAnswer.{SweepAnswer}
 use Rattle.sweep.specs.declared.sweep.SweepAnswer.the-variants as SweepAnswer
-use Rattle.sweep.specs.Demand3.{Buffers, Ran, SameLengths, TwoRuns}
+use Rattle.sweep.specs.Sweep.{Buffers, buffers, Ran}
+use Rattle.sweep.specs.Demand3.{SameLengths, TwoRuns}
 use Rattle.sweep.proofs.TwoRuns.{two-runs}
 use Rattle.sweep.proofs.sweep.read_sweep.{signature}
 use Rattle.sweep.proofs.sweep.read_sweep.Kinds as kinds
@@ -50,17 +51,17 @@ body c = now (c .given .1 .1 .1 .0)
 
 -- what the buffers hold before and after
 abbrev pub old : Call → Buffers
-old c = let a = c .given .1 .1 .1 .1 in record { azimuths = now (a .0); codes = now (a .1 .0); physical = now (a .1 .1 .0) }
+old c = let a = c .given .1 .1 .1 .1 in buffers (now (a .0)) (now (a .1 .0)) (now (a .1 .1 .0))
 
 abbrev pub new : Call → Buffers
-new c = let s = c .last .1 .1 .1 .1 in record { azimuths = now (s .0); codes = now (s .1 .0); physical = now (s .1 .1 .0) }
+new c = let s = c .last .1 .1 .1 .1 in buffers (now (s .0)) (now (s .1 .0)) (now (s .1 .1 .0))
 
 -- what the contract allows is what demand 3 calls a run, and nothing else
 pub call-runs : (c : Call) → Allowed c → Ran (scheme c) (file c) (clock c) (body c) (old c) (new c) (c .answer)
-call-runs c p = record { answered = p .0; azimuths = p .1 .0; codes = p .1 .1 .0; physical = p .1 .1 .1 }
+call-runs c p = p
 
 pub run-calls : (c : Call) → Ran (scheme c) (file c) (clock c) (body c) (old c) (new c) (c .answer) → Allowed c
-run-calls c r = (r .answered, (r .azimuths, (r .codes, r .physical)))
+run-calls c r = r
 
 -- the body of a call is bytes
 body-bytes : (c : Call) → Bytes (body c)

@@ -13,7 +13,8 @@ use Rattle.bytes.specs.Float.{f32}
 use Rattle.bytes.specs.Refusal.{Refusal, kind, float, refusalOf}
 use Rattle.bytes.specs.Result.{Result, accepted, refused, refuse, then, lent}
 use Rattle.scale.specs.Outcome.{declaredScaleOf}
-use Rattle.scale.specs.Physical.{declaredScale, physicalOf, fillOf}
+use Rattle.scale.specs.Pdb.{valueScalingLinearHw, valueScalingFloat, precipFamilyScale, thresholdPlace}
+use Rattle.scale.specs.Physical.{scaleFields, declaredScale, physicalOf, fillOf}
 use Rattle.scale.specs.declared.scaling.DeclaredLinearScale.{DeclaredLinearScale}
 use Rattle.scale.specs.declared.physical.Declared.{Declared}
 use Rattle.scale.specs.declared.physical.Declared.the-variants as Declared
@@ -22,41 +23,80 @@ use Rattle.scale.specs.declared.physical.DeclaredScaleRead.the-variants as Decl
 use Rattle.scale.specs.declared.physical.Scaling.{Scaling}
 use Rattle.scale.specs.declared.physical.Scaling.the-variants as Scaling
 use Rattle.scale.specs.declared.physical.Scheme.{Scheme}
-use Rattle.symbology.specs.Answers.{Picture, pictureOf, asked, tooFew, stepOf, roomIn, admit, decodeFor, figuresIn}
+use Rattle.scale.specs.declared.physical.Scheme.the-variants as Scheme
+use Rattle.symbology.specs.Answers.{Picture, pictureOf, asked, tooFew, stepOf, roomIn, admit, decodeFor, figuresIn, figuresOf, Decodes}
 use Rattle.symbology.specs.Symbology.{symbology}
 use Rattle.bytes.specs.Reading.{run}
 use Rattle.symbology.specs.declared.figures.Figures.{Figures}
 use Rattle.symbology.specs.declared.figures.Packet.{Packet}
 use Rattle.symbology.specs.declared.figures.Packet.the-variants.{Packet16, PacketAf1f, Packet28}
+use Rattle.symbology.specs.declared.figures.Packets.the-variants as Packets
+use Rattle.symbology.specs.declared.figures.FiguresRead.{FiguresRead}
+use Rattle.symbology.specs.declared.figures.FiguresRead.the-variants as FiguresRead
 use Rattle.symbology.specs.declared.figures.Terms.{Terms}
 use Rattle.sweep.specs.declared.plan.Head.{Head}
-use Rattle.sweep.specs.declared.sweep.Sweep.{Sweep}
+use Rattle.sweep.specs.declared.sweep.SweepAnswer.{SweepAnswer}
+use Rattle.sweep.specs.declared.sweep.SweepAnswer.the-variants as SweepAnswer
 use Rattle.bytes.proofs.Results.{clash, one-value, through, passed}
 use Rattle.sweep.proofs.Parts.{block-start}
 use Rattle.symbology.proofs.RowPlaces.{codes-long}
-use Rattle.sweep.specs.Sweep.{headOf, allowed, roomFor, Accepted, finish, sweepOf, sweepIn, stepCheck, termsFor}
+use Rattle.sweep.specs.Sweep.{headOf, allowed, roomFor, Accepted, finish, sweepOf, sweepIn, answerOf, buffers, Ran, packetsFor, termsFor}
 
 -- ---- what is asked of a body on the terms of a scheme
 
-asked-is : (scheme : Scheme) (s : Scaling) (d : DeclaredScaleRead) (np : ℕ) (packet : Packet) → asked (termsFor scheme s d np) packet ≡ allowed scheme packet
-unfolding asked termsFor
-asked-is scheme s d np Packet16 = refl
-asked-is scheme s d np PacketAf1f = refl
-asked-is scheme s d np Packet28 = refl
+-- the packets of a scheme, for each group of schemes
+module _ (step : Float) where
+  radial-halfword : (packet : Packet) → asked (Packets.Radial step) packet ≡ allowed Scheme.Halfword packet
+  unfolding asked allowed
+  radial-halfword Packet16 = refl
+  radial-halfword PacketAf1f = refl
+  radial-halfword Packet28 = refl
 
--- the step's test is the declared scale's
-step-is : (s : Scaling) (d : DeclaredScaleRead) → declaredScaleOf d ≡ declaredScale s → stepOf (stepCheck s d) ≡ then (declaredScaleOf d) (λ _. accepted tt)
+  radial-float : (packet : Packet) → asked (Packets.Radial step) packet ≡ allowed Scheme.Float packet
+  unfolding asked allowed
+  radial-float Packet16 = refl
+  radial-float PacketAf1f = refl
+  radial-float Packet28 = refl
+
+af1f-legacy : (post : Float) (packet : Packet) → asked Packets.Af1fAlone packet ≡ allowed (Scheme.Legacy post) packet
+unfolding asked allowed
+af1f-legacy post Packet16 = refl
+af1f-legacy post PacketAf1f = refl
+af1f-legacy post Packet28 = refl
+
+any : (packet : Packet) → asked Packets.Any packet ≡ true
+unfolding asked
+any Packet16 = refl
+any PacketAf1f = refl
+any Packet28 = refl
+
+-- the packets that are asked for are the scheme's
+asked-is : (scheme : Scheme) (file : List ℕ) (block : ℕ) (s : Scaling) → scaleFields scheme file block ≡ accepted s → (packet : Packet)
+    → asked (packetsFor s) packet ≡ allowed scheme packet
+unfolding scaleFields allowed
+asked-is Scheme.Halfword file block s e packet =
+    through (valueScalingLinearHw file block) _ s e λ x _ y. ap (λ v. asked (packetsFor v) packet) (sym (one-value y)) ∙ radial-halfword (x .«value_increment») packet
+asked-is Scheme.Float file block s e packet =
+    through (valueScalingFloat file block) _ s e λ x _ y. ap (λ v. asked (packetsFor v) packet) (sym (one-value y)) ∙ radial-float (x .«value_increment») packet
+asked-is (Scheme.Precipitation factor) file block s e packet =
+    through (precipFamilyScale file block factor) _ s e λ x _ y. ap (λ v. asked (packetsFor v) packet) (sym (one-value y)) ∙ any packet
+asked-is (Scheme.Legacy post) file block s e packet =
+    through (thresholdPlace file block) _ s e λ x _ y. ap (λ v. asked (packetsFor v) packet) (sym (one-value y)) ∙ af1f-legacy post packet
+asked-is Scheme.Class file block s e packet = ap (λ v. asked (packetsFor v) packet) (sym (one-value e)) ∙ any packet
+
+-- 9 on these terms is the declared scale's
+step-declared : (s : Scaling) → stepOf (packetsFor s) ≡ then (declaredScale s) (λ _. accepted tt)
 unfolding declaredScale
-step-is s (DeclaredScaleRead.Value declared) h = refl
-step-is (Scaling.Linear s) (DeclaredScaleRead.Refused e) h = by (le (s .«value_increment») (f32 0 1)) _ h
+step-declared (Scaling.Linear s) = by (le (s .«value_increment») (f32 0 1)) _
   where
-    by : (b : Bool) (y : DeclaredLinearScale) → refused (refusalOf e) ≡ then (refuse b (kind 9 (float (s .«value_increment») ∷ [])) (accepted y)) (λ x. accepted (Declared.Scale x))
-        → _≡_ {A = Result (Unit {0})} (refused (kind 9 (float (s .«value_increment») ∷ []))) (refused (refusalOf e))
-    by true y k = cc
-    by false y k = clash (Declared.Scale y) (refusalOf e) k
-step-is (Scaling.Precip p) (DeclaredScaleRead.Refused e) h = clash _ _ h
-step-is (Scaling.Legacy at post) (DeclaredScaleRead.Refused e) h = clash _ _ h
-step-is Scaling.Class (DeclaredScaleRead.Refused e) h = clash _ _ h
+    by : (b : Bool) (y : DeclaredLinearScale)
+        → refuse b (kind 9 (float (s .«value_increment») ∷ [])) (accepted tt)
+        ≡ then (then (refuse b (kind 9 (float (s .«value_increment») ∷ [])) (accepted y)) (λ x. accepted (Declared.Scale x))) (λ _. accepted (tt {0}))
+    by true y = refl
+    by false y = refl
+step-declared (Scaling.Precip p) = refl
+step-declared (Scaling.Legacy at post) = refl
+step-declared Scaling.Class = refl
 
 -- what acceptance gives
 abbrev swept : Scheme → List ℕ → Head → Picture → Declared → Accepted
@@ -77,11 +117,13 @@ module _ (scheme : Scheme) (file : List ℕ) (h : Head) (na nc np : ℕ) where
   by-declared false (DeclaredScaleRead.Value declared) (accepted u) p = refl
   by-declared false (DeclaredScaleRead.Value declared) (refused x) p = refl
 
-  finish-is : (d : DeclaredScaleRead) → declaredScaleOf d ≡ declaredScale (h .scaling) → (p : Picture)
+  finish-is : (d : DeclaredScaleRead) → declaredScaleOf d ≡ declaredScale (h .scaling) → scaleFields scheme file (h .block) ≡ accepted (h .scaling) → (p : Picture)
       → finish scheme file na nc np h p
-      ≡ then (then (admit (termsFor scheme (h .scaling) d np) na nc (p .figures)) λ _. accepted p) λ q. then (declaredScaleOf d) λ declared. accepted (swept scheme file h q declared)
+      ≡ then (then (admit (termsFor (h .scaling) np) na nc (p .figures)) λ _. accepted p) λ q. then (declaredScaleOf d) λ declared. accepted (swept scheme file h q declared)
   unfolding finish admit roomIn roomFor tooFew termsFor
-  finish-is d e p = rw (asked-is scheme (h .scaling) d np (p .figures .packet), step-is (h .scaling) d e, ← e) (by-declared (not (allowed scheme (p .figures .packet))) d (roomFor na nc np (p .figures)) p)
+  finish-is d e es p =
+      rw (asked-is scheme file (h .block) (h .scaling) es (p .figures .packet), step-declared (h .scaling), ← e)
+      (by-declared (not (allowed scheme (p .figures .packet))) d (roomFor na nc np (p .figures)) p)
 
 -- ---- a picture that was read
 
@@ -109,10 +151,10 @@ passed-value : {C : Type 0} (d : DeclaredScaleRead) (r : Result (Unit {0})) → 
 passed-value (DeclaredScaleRead.Value declared) r e k = k declared refl e
 passed-value (DeclaredScaleRead.Refused x) r e k = clash tt (refusalOf x) e
 
--- what is known once a body was read on the terms of a scheme
-pub record Drawn (scheme : Scheme) (s : Scaling) (d : DeclaredScaleRead) (body : List ℕ) (na nc np : ℕ) (f : Figures) : Type 0 where
+-- what is known once a body was read on the terms of a scaling
+pub record Drawn (s : Scaling) (d : DeclaredScaleRead) (body : List ℕ) (na nc np : ℕ) (f : Figures) : Type 0 where
   pub picture : Picture
-  pub is : decodeFor (termsFor scheme s d np) body na nc ≡ accepted picture
+  pub is : decodeFor (termsFor s np) body na nc ≡ accepted picture
   pub figures : picture .figures ≡ f
   pub many : length (picture .codes) ≡ f .«n_radials» * f .«n_bins»
   pub declared : Declared
@@ -120,21 +162,21 @@ pub record Drawn (scheme : Scheme) (s : Scaling) (d : DeclaredScaleRead) (body :
   pub codes-room : f .«n_radials» * f .«n_bins» ≤ nc
   pub physical-room : f .«n_radials» * f .«n_bins» ≤ np
 
-pub drawn : (scheme : Scheme) (s : Scaling) (d : DeclaredScaleRead) → declaredScaleOf d ≡ declaredScale s → (body : List ℕ) (na nc np : ℕ) {f : Figures}
-    → accepted f ≡ figuresIn (decodeFor (termsFor scheme s d np) body na nc) → Drawn scheme s d body na nc np f
+pub drawn : (s : Scaling) (d : DeclaredScaleRead) → declaredScaleOf d ≡ declaredScale s → (body : List ℕ) (na nc np : ℕ) {f : Figures}
+    → accepted f ≡ figuresIn (decodeFor (termsFor s np) body na nc) → Drawn s d body na nc np f
 unfolding decodeFor admit roomIn tooFew termsFor
-drawn scheme s d is body na nc np {f} e =
-    let g = given-figures (decodeFor (termsFor scheme s d np) body na nc) e in
+drawn s d is body na nc np {f} e =
+    let g = given-figures (decodeFor (termsFor s np) body na nc) e in
     let p = g .0 in
     through (pictureOf body) _ p (g .1) λ q eq e₁.
-    through (admit (termsFor scheme s d np) na nc (q .figures)) _ p e₁ λ u ea e₂.
+    through (admit (termsFor s np) na nc (q .figures)) _ p e₁ λ u ea e₂.
     let same = one-value e₂ in
-    passed (not (asked (termsFor scheme s d np) (q .figures .packet))) _ _ tt ea λ _ e₃.
-    passed-value d _ (rw (step-is s d is) at e₃) λ declared ed e₄.
+    passed (not (asked (packetsFor s) (q .figures .packet))) _ _ tt ea λ _ e₃.
+    passed-value d _ (rw (step-declared s, ← is) at e₃) λ declared ed e₄.
     passed (ltb na (q .figures .«n_radials»)) _ _ tt e₄ λ _ e₅.
     passed (ltb nc (q .figures .«n_radials» * q .figures .«n_bins»)) _ _ tt e₅ λ c e₆.
     passed (ltb np (q .figures .«n_radials» * q .figures .«n_bins»)) _ _ tt e₆ λ v _.
-    subst (Drawn scheme s d body na nc np) (ap (λ (x : Picture). x .figures) same ∙ g .2)
+    subst (Drawn s d body na nc np) (ap (λ (x : Picture). x .figures) same ∙ g .2)
     (record {
       picture = q;
       is = g .1 ∙ ap accepted (sym same);
@@ -154,51 +196,52 @@ fills scheme file clock h e codes np room = rw (block-start scheme file clock h 
 
 -- ---- the answers
 
--- what the code says and leaves, by a result: beside the picture, and in buffers that held az, cs and ph
-abbrev Told : Result Accepted → List Float → List ℕ → List Float → Result Sweep → List Float → List ℕ → List Float → Type 0
-Told d az cs ph r az' cs' ph' =
-    (r ≡ sweepIn d) × ((az' ≡ lent d (λ p. p .azimuths) az) × ((cs' ≡ lent d (λ p. p .codes) cs) × (ph' ≡ lent d (λ p. p .physical) ph)))
-
-told : {d d' : Result Accepted} (az : List Float) (cs : List ℕ) (ph : List Float) → d ≡ d'
-    → Told d' az cs ph (sweepIn d) (lent d (λ p. p .azimuths) az) (lent d (λ p. p .codes) cs) (lent d (λ p. p .physical) ph)
-told az cs ph e = (
-  ap sweepIn e,
-  (ap (λ d. lent d (λ p. p .azimuths) az) e, (ap (λ d. lent d (λ p. p .codes) cs) e, ap (λ d. lent d (λ p. p .physical) ph) e)),
-)
-
 module _ (scheme : Scheme) (file : List ℕ) (clock : ℕ) (body : List ℕ) (az : List Float) (cs : List ℕ) (ph : List Float) where
-  abbrev Reads : Result Sweep → List Float → List ℕ → List Float → Type 0
-  Reads = Told (sweepOf scheme file clock body (length az) (length cs) (length ph)) az cs ph
+  abbrev Reads : SweepAnswer → List Float → List ℕ → List Float → Type 0
+  Reads r az' cs' ph' = Ran scheme file clock body (buffers az cs ph) (buffers az' cs' ph') r
 
-  pub head-refused : {x : Refusal} → refused x ≡ headOf scheme file clock → Reads (refused x) az cs ph
+  -- the sweep reading with these buffers
+  abbrev S : Result Accepted
+  S = sweepOf scheme file clock body (length az) (length cs) (length ph)
+
+  -- what the code says and leaves, by a result
+  told : {d : Result Accepted} {r : SweepAnswer} {az' : List Float} {cs' : List ℕ} {ph' : List Float} → d ≡ S → answerOf r ≡ sweepIn d
+      → az' ≡ lent d (λ p. p .azimuths) az → cs' ≡ lent d (λ p. p .codes) cs → ph' ≡ lent d (λ p. p .physical) ph → Reads r az' cs' ph'
+  told e i a c v =
+      record {
+        answered = i ∙ ap sweepIn e;
+        azimuths = a ∙ ap (λ d. lent d (λ p. p .azimuths) az) e;
+        codes = c ∙ ap (λ d. lent d (λ p. p .codes) cs) e;
+        physical = v ∙ ap (λ d. lent d (λ p. p .physical) ph) e;
+      }
+
+  pub head-refused : {x : Level3DecodeError} → refused (refusalOf x) ≡ headOf scheme file clock → Reads (SweepAnswer.Refused x) az cs ph
   unfolding sweepOf
-  head-refused {x} e = let d : refused x ≡ sweepOf scheme file clock body (length az) (length cs) (length ph) = rw (← e) in told az cs ph d
+  head-refused {x} e = let d : refused (refusalOf x) ≡ S = rw (← e) in told d refl refl refl refl
 
   -- the head is read, the terms are made of it, and the body is read on them
   module _ (h : Head) (d : DeclaredScaleRead) (t : Terms) (eh : accepted h ≡ headOf scheme file clock) (ed : declaredScaleOf d ≡ declaredScale (h .scaling))
-      (et : t ≡ termsFor scheme (h .scaling) d (length ph)) where
+      (et : t ≡ termsFor (h .scaling) (length ph)) where
     abbrev D : Result Picture
     D = decodeFor t body (length az) (length cs)
 
-    by-decode : sweepOf scheme file clock body (length az) (length cs) (length ph)
-        ≡ then D λ p. then (declaredScaleOf d) λ declared. accepted (swept scheme file h p declared)
+    by-decode : S ≡ then D λ p. then (declaredScaleOf d) λ declared. accepted (swept scheme file h p declared)
     unfolding sweepOf decodeFor
     by-decode = rw (← eh, et) (by (pictureOf body))
       where
         by : (z : Result Picture)
             → then z (finish scheme file (length az) (length cs) (length ph) h)
-            ≡ then (then z λ p. then (admit (termsFor scheme (h .scaling) d (length ph)) (length az) (length cs) (p .figures)) λ _. accepted p)
+            ≡ then (then z λ p. then (admit (termsFor (h .scaling) (length ph)) (length az) (length cs) (p .figures)) λ _. accepted p)
             λ p. then (declaredScaleOf d) λ declared. accepted (swept scheme file h p declared)
-        by (accepted p) = finish-is scheme file h (length az) (length cs) (length ph) d ed p
+        by (accepted p) = finish-is scheme file h (length az) (length cs) (length ph) d ed (block-start scheme file clock h (sym eh) .3) p
         by (refused x) = refl
 
-    pub body-refused : {x : Refusal} {az' : List Float} {cs' : List ℕ} → refused x ≡ figuresIn D
-        → az' ≡ lent D (λ p. p .azimuths) az → cs' ≡ lent D (λ p. p .codes) cs → Reads (refused x) az' cs' ph
-    body-refused {x} e a c =
-        let z = refused-figures D e in
-        let r : refused x ≡ sweepOf scheme file clock body (length az) (length cs) (length ph) = sym (by-decode ∙ rw z) in
-        let w = told az cs ph r in
-        (w .0, (a ∙ ap (λ d. lent d (λ p. p .azimuths) az) z ∙ w .1 .0, (c ∙ ap (λ d. lent d (λ p. p .codes) cs) z ∙ w .1 .1 .0, w .1 .1 .1)))
+    pub body-refused : {x : Level3DecodeError} {r : FiguresRead} {az' : List Float} {cs' : List ℕ} → r ≡ FiguresRead.Refused x
+        → Decodes (decodeFor t body) az az' cs cs' r → Reads (SweepAnswer.Refused x) az' cs' ph
+    body-refused {x} is w =
+        let z = refused-figures D (ap figuresOf (sym is) ∙ w .answered) in
+        let r : refused (refusalOf x) ≡ S = sym (by-decode ∙ rw z) in
+        told r refl (w .azimuths ∙ ap (λ d. lent d (λ p. p .azimuths) az) z) (w .codes ∙ ap (λ d. lent d (λ p. p .codes) cs) z) refl
 
 -- ---- after symbology's entry has accepted
 
@@ -207,14 +250,14 @@ pub record Decoded (scheme : Scheme) (file : List ℕ) (clock : ℕ) (body : Lis
     : Type 0 where
   pub head-is : accepted h ≡ headOf scheme file clock
   pub declared-is : declaredScaleOf d ≡ declaredScale (h .scaling)
-  pub terms-are : t ≡ termsFor scheme (h .scaling) d (length ph)
+  pub terms-are : t ≡ termsFor (h .scaling) (length ph)
   pub figures-are : accepted f ≡ figuresIn (decodeFor t body (length az) (length cs))
 
 module _ {scheme : Scheme} {file : List ℕ} {clock : ℕ} {body : List ℕ} {az : List Float} {cs : List ℕ} {ph : List Float} {h : Head} {d : DeclaredScaleRead} {t : Terms} {f : Figures}
     (w : Decoded scheme file clock body az cs ph h d t f) where
-  pub drawn-here : Drawn scheme (h .scaling) d body (length az) (length cs) (length ph) f
+  pub drawn-here : Drawn (h .scaling) d body (length az) (length cs) (length ph) f
   drawn-here =
-      drawn scheme (h .scaling) d (w .declared-is) body (length az) (length cs) (length ph)
+      drawn (h .scaling) d (w .declared-is) body (length az) (length cs) (length ph)
       (w .figures-are ∙ ap (λ x. figuresIn (decodeFor x body (length az) (length cs))) (w .terms-are))
 
   drawn-is : decodeFor t body (length az) (length cs) ≡ accepted (drawn-here .picture)
@@ -249,16 +292,13 @@ module _ {scheme : Scheme} {file : List ℕ} {clock : ℕ} {body : List ℕ} {az
 
     pub read : {declared : Declared} {az' ph' : List Float} → d ≡ DeclaredScaleRead.Value declared
         → az' ≡ lent (decodeFor t body (length az) (length cs)) (λ p. p .azimuths) az → ph' ≡ lent Fill (λ values. values) ph
-        → Reads scheme file clock body az cs ph (accepted (record { token = h .token; fields = h .fields; time = h .time; declared = declared; figures = f })) az' cs' ph'
+        → Reads scheme file clock body az cs ph
+        (SweepAnswer.Accepted (record { token = h .token; fields = h .fields; time = h .time; declared = declared; figures = f })) az' cs' ph'
     read {declared} is a v =
-        let r : accepted (swept scheme file h (drawn-here .picture) declared) ≡ sweepOf scheme file clock body (length az) (length cs) (length ph) =
+        let r : accepted (swept scheme file h (drawn-here .picture) declared) ≡ S scheme file clock body az cs ph =
         sym (by-decode scheme file clock body az cs ph h d t (w .head-is) (w .declared-is) (w .terms-are)
         ∙ ap (λ z. then z λ p. then (declaredScaleOf d) λ declared. accepted (swept scheme file h p declared)) drawn-is
         ∙ ap (λ y. then (declaredScaleOf y) λ declared. accepted (swept scheme file h (drawn-here .picture) declared)) is) in
-        let x = told az cs ph r in (
-          ap (λ g. accepted (record { token = h .token; fields = h .fields; time = h .time; declared = declared; figures = g })) (sym (drawn-here .figures)) ∙ x .0,
-          (
-            a ∙ ap (λ r. lent r (λ p. p .azimuths) az) drawn-is ∙ x .1 .0,
-            (now-codes ∙ x .1 .1 .0, v ∙ ap (λ r. lent r (λ values. values) ph) filled ∙ x .1 .1 .1),
-          ),
-        )
+        told scheme file clock body az cs ph r
+        (ap (λ g. accepted (record { token = h .token; fields = h .fields; time = h .time; declared = declared; figures = g })) (sym (drawn-here .figures)))
+        (a ∙ ap (λ r. lent r (λ p. p .azimuths) az) drawn-is) now-codes (v ∙ ap (λ r. lent r (λ values. values) ph) filled)

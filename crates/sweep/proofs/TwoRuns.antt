@@ -13,8 +13,8 @@ use Rattle.symbology.specs.Words.{Bytes, DamageInWords}
 use Rattle.sweep.specs.declared.sweep.Sweep.{Sweep}
 use Rattle.sweep.specs.declared.sweep.SweepAnswer.{SweepAnswer}
 use Rattle.sweep.specs.declared.sweep.SweepAnswer.the-variants as SweepAnswer
-use Rattle.sweep.specs.Sweep.{Accepted, sweepOf, answerOf}
-use Rattle.sweep.specs.Demand3.{rowAt, RowsKept, Kept, Buffers, readInto, Ran, SameLengths, TwoRuns}
+use Rattle.sweep.specs.Sweep.{Accepted, sweepOf, answerOf, Buffers, readInto, Ran}
+use Rattle.sweep.specs.Demand3.{rowAt, RowsKept, Kept, SameLengths, TwoRuns}
 use Rattle.sweep.proofs.RowLaws.{row-front}
 use Rattle.bytes.proofs.Results.{clash, through}
 use Rattle.sweep.proofs.Parts.{sizes}

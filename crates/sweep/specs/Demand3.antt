@@ -22,7 +22,7 @@ use Rattle.symbology.specs.Words.{dataOf, ChangedIn}
 use Rattle.sweep.specs.declared.sweep.Sweep.{Sweep}
 use Rattle.sweep.specs.declared.sweep.SweepAnswer.{SweepAnswer}
 use Rattle.sweep.specs.declared.sweep.SweepAnswer.the-variants as SweepAnswer
-use Rattle.sweep.specs.Sweep.{Accepted, sweepOf, answerOf}
+use Rattle.sweep.specs.Sweep.{Accepted, sweepOf, answerOf, Buffers}
 use Rattle.sweep.specs.InWords.{RowInWords}
 
 -- row r of a buffer by rows
@@ -98,23 +98,6 @@ module _ (scheme : Scheme) (file : List ℕ) (clock : ℕ) (b b' : List ℕ) (na
     pub otherwise : AllMake (p .sweep .figures) b b' → Kept
 
 -- ---- for two runs of the code
-
--- What three lent buffers hold: f64 azimuths, u16 codes by row, f32 physical values.
-pub record Buffers : Type 0 where
-  pub azimuths : List Float
-  pub codes : List ℕ
-  pub physical : List Float
-
--- the sweep reading with buffers of these lengths
-abbrev pub readInto : Scheme → List ℕ → ℕ → List ℕ → Buffers → Result Accepted
-readInto scheme file clock body old = sweepOf scheme file clock body (length (old .azimuths)) (length (old .codes)) (length (old .physical))
-
--- One run: the answer, and what the buffers hold before and after.
-pub record Ran (scheme : Scheme) (file : List ℕ) (clock : ℕ) (body : List ℕ) (old new : Buffers) (answer : SweepAnswer) : Type 0 where
-  pub answered : answerOf answer ≡ then (readInto scheme file clock body old) λ p. accepted (p .sweep)
-  pub azimuths : new .azimuths ≡ lent (readInto scheme file clock body old) (λ p. p .azimuths) (old .azimuths)
-  pub codes : new .codes ≡ lent (readInto scheme file clock body old) (λ p. p .codes) (old .codes)
-  pub physical : new .physical ≡ lent (readInto scheme file clock body old) (λ p. p .physical) (old .physical)
 
 -- equal buffer lengths, whatever the buffers hold
 pub record SameLengths (one other : Buffers) : Type 0 where

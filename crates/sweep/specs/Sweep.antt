@@ -3,10 +3,12 @@
 use Prim.Native.Nat.{ℕ, _+_, _*_}
 use mathlib.Core.List.{List, [], _∷_, map}
 use mathlib.Core.Bool.{Bool, true, false, not}
+use mathlib.Core.Path.{_≡_}
 use lib.Dec.{ltb}
+use lib.ListN.{length}
 use lib.Ieee.{Float}
 use Rattle.bytes.specs.Refusal.{kind, buffer, refusalOf}
-use Rattle.bytes.specs.Result.{Result, accepted, refused, refuse, then}
+use Rattle.bytes.specs.Result.{Result, accepted, refused, refuse, then, lent}
 use Rattle.bytes.specs.declared.error.Buffer.the-variants as Buffer
 use Rattle.head.specs.Header.{token, messageHeader, scanTime}
 use Rattle.head.specs.Pdb.{pdbFields}
@@ -15,16 +17,14 @@ use Rattle.scale.specs.declared.physical.Scheme.{Scheme}
 use Rattle.scale.specs.declared.physical.Scheme.the-variants as Scheme
 use Rattle.scale.specs.declared.physical.Scaling.{Scaling}
 use Rattle.scale.specs.declared.physical.Scaling.the-variants as Scaling
-use Rattle.scale.specs.declared.physical.DeclaredScaleRead.{DeclaredScaleRead}
-use Rattle.scale.specs.declared.physical.DeclaredScaleRead.the-variants as DeclaredScaleRead
 use Rattle.symbology.specs.Answers.{Picture, pictureOf}
 use Rattle.symbology.specs.declared.figures.Packet.{Packet}
 use Rattle.symbology.specs.declared.figures.Packet.the-variants.{Packet16, PacketAf1f, Packet28}
 use Rattle.symbology.specs.declared.figures.Figures.{Figures}
 use Rattle.symbology.specs.declared.figures.Terms.{Terms}
 use Rattle.symbology.specs.declared.figures.Room.the-variants as Room
-use Rattle.symbology.specs.declared.figures.StepCheck.{StepCheck}
-use Rattle.symbology.specs.declared.figures.StepCheck.the-variants as StepCheck
+use Rattle.symbology.specs.declared.figures.Packets.{Packets}
+use Rattle.symbology.specs.declared.figures.Packets.the-variants as Packets
 use Rattle.sweep.specs.declared.plan.Head.{Head}
 use Rattle.sweep.specs.declared.plan.HeadRead.{HeadRead}
 use Rattle.sweep.specs.declared.plan.HeadRead.the-variants as HeadRead
@@ -103,22 +103,36 @@ abbrev pub headReadOf : HeadRead → Result Head
 headReadOf (HeadRead.Value h) = accepted h
 headReadOf (HeadRead.Refused e) = refused (refusalOf e)
 
+-- ---- a run of the code
+
+-- What three lent buffers hold: f64 azimuths, u16 codes by row, f32 physical values.
+pub record Buffers : Type 0 where
+  pub azimuths : List Float
+  pub codes : List ℕ
+  pub physical : List Float
+
+abbrev pub buffers : List Float → List ℕ → List Float → Buffers
+buffers az cs ph = record { azimuths = az; codes = cs; physical = ph }
+
+-- the sweep reading with buffers of these lengths
+abbrev pub readInto : Scheme → List ℕ → ℕ → List ℕ → Buffers → Result Accepted
+readInto scheme file clock body old = sweepOf scheme file clock body (length (old .azimuths)) (length (old .codes)) (length (old .physical))
+
+-- One run: the answer, and what the buffers hold before and after.
+pub record Ran (scheme : Scheme) (file : List ℕ) (clock : ℕ) (body : List ℕ) (old new : Buffers) (answer : SweepAnswer) : Type 0 where
+  pub answered : answerOf answer ≡ sweepIn (readInto scheme file clock body old)
+  pub azimuths : new .azimuths ≡ lent (readInto scheme file clock body old) (λ p. p .azimuths) (old .azimuths)
+  pub codes : new .codes ≡ lent (readInto scheme file clock body old) (λ p. p .codes) (old .codes)
+  pub physical : new .physical ≡ lent (readInto scheme file clock body old) (λ p. p .physical) (old .physical)
+
 -- ---- what the code asks of a body
 
--- the declared scale's check as a test of the step: it refuses halfword and float alone, and them for their step (9)
-abbrev pub stepCheck : Scaling → DeclaredScaleRead → StepCheck
-stepCheck scaling (DeclaredScaleRead.Value d) = StepCheck.Passed
-stepCheck (Scaling.Linear s) (DeclaredScaleRead.Refused e) = StepCheck.NotPositive (s .«value_increment»)
-stepCheck (Scaling.Precip p) (DeclaredScaleRead.Refused e) = StepCheck.Passed
-stepCheck (Scaling.Legacy at post) (DeclaredScaleRead.Refused e) = StepCheck.Passed
-stepCheck Scaling.Class (DeclaredScaleRead.Refused e) = StepCheck.Passed
+-- the packets of the scheme that a scaling is of, and for halfword and float its step
+abbrev pub packetsFor : Scaling → Packets
+packetsFor (Scaling.Linear s) = Packets.Radial (s .«value_increment»)
+packetsFor (Scaling.Precip p) = Packets.Any
+packetsFor (Scaling.Legacy at post) = Packets.Af1fAlone
+packetsFor Scaling.Class = Packets.Any
 
-unfoldable pub termsFor : Scheme → Scaling → DeclaredScaleRead → ℕ → Terms
-termsFor scheme scaling declared np =
-    record {
-      packet16 = allowed scheme Packet16;
-      «packet_af1f» = allowed scheme PacketAf1f;
-      packet28 = allowed scheme Packet28;
-      step = stepCheck scaling declared;
-      physical = Room.Places np;
-    }
+unfoldable pub termsFor : Scaling → ℕ → Terms
+termsFor scaling np = record { packets = packetsFor scaling; physical = Room.Places np }

@@ -4,16 +4,14 @@ use head::header::Place;
 use head::header::TimeRead;
 use head::pdb::FieldsRead;
 use head::pdb::PdbFields;
-use scale::physical::DeclaredScaleRead;
 use scale::physical::Scaling;
 use scale::physical::ScalingRead;
 use scale::physical::Scheme;
-use symbology::figures::Packet;
+use symbology::figures::Packets;
 use symbology::figures::Room;
-use symbology::figures::StepCheck;
 use symbology::figures::Terms;
 ghost use mathlib.Core.Path.{_≡_};
-ghost use Rattle.sweep.specs.Sweep.{headOf, allowed, headReadOf, stepCheck, termsFor};
+ghost use Rattle.sweep.specs.Sweep.{headOf, headReadOf, packetsFor, termsFor};
 
 // What the file says. The token stands at `token`: product there, site three bytes on. The block starts at `block`.
 pub struct Head {
@@ -62,63 +60,30 @@ pub fn read_head(scheme: Scheme, file: &[u8], clock: u64) -> HeadRead
     }
 }
 
-// Legacy works on AF1F alone; halfword and float on 16 and AF1F; precipitation and class on all three.
-pub fn is_allowed(scheme: Scheme, packet: Packet) -> bool
-    ensures { λ r. ⌜ r ≡ allowed scheme packet ⌝ }
+// The packets of the scheme that a scaling is of: legacy works on AF1F alone, halfword and float on 16 and AF1F, precipitation and class
+// on all three.
+fn packets_for(scaling: Scaling) -> Packets
+    ensures { λ r. ⌜ r ≡ packetsFor scaling ⌝ }
 {
-    match scheme {
-        Scheme::Precipitation { factor: _ } => true,
-        Scheme::Class => true,
-        Scheme::Halfword => match packet {
-            Packet::Packet16 => true,
-            Packet::PacketAf1f => true,
-            Packet::Packet28 => false,
+    match scaling {
+        Scaling::Linear(s) => Packets::Radial {
+            step: s.value_increment,
         },
-        Scheme::Float => match packet {
-            Packet::Packet16 => true,
-            Packet::PacketAf1f => true,
-            Packet::Packet28 => false,
-        },
-        Scheme::Legacy { post_scale: _ } => match packet {
-            Packet::Packet16 => false,
-            Packet::PacketAf1f => true,
-            Packet::Packet28 => false,
-        },
+        Scaling::Precip(_) => Packets::Any,
+        Scaling::Legacy {
+            at: _,
+            post_scale: _,
+        } => Packets::Af1fAlone,
+        Scaling::Class => Packets::Any,
     }
 }
 
-// The declared scale's check as a test of the step: it refuses halfword and float alone, and them for their step (9).
-fn step_check(scaling: Scaling, declared: DeclaredScaleRead) -> StepCheck
-    ensures { λ r. ⌜ r ≡ stepCheck scaling declared ⌝ }
-{
-    match declared {
-        DeclaredScaleRead::Value(_) => StepCheck::Passed,
-        DeclaredScaleRead::Refused(_) => match scaling {
-            Scaling::Linear(s) => StepCheck::NotPositive(s.value_increment),
-            Scaling::Precip(_) => StepCheck::Passed,
-            Scaling::Legacy {
-                at: _,
-                post_scale: _,
-            } => StepCheck::Passed,
-            Scaling::Class => StepCheck::Passed,
-        },
-    }
-}
-
-// The terms on which a body is read: 10 by the scheme, 9 by the declared scale, 36 by the room for physical values.
-pub fn terms_for(
-    scheme: Scheme,
-    scaling: Scaling,
-    declared: DeclaredScaleRead,
-    physical: usize,
-) -> Terms
-    ensures { λ r. ⌜ r ≡ termsFor scheme scaling declared physical ⌝ }
+// The terms on which a body is read: 10 and 9 by the scaling, 36 by the room for physical values.
+pub fn terms_for(scaling: Scaling, physical: usize) -> Terms
+    ensures { λ r. ⌜ r ≡ termsFor scaling physical ⌝ }
 {
     Terms {
-        packet16: is_allowed(scheme, Packet::Packet16),
-        packet_af1f: is_allowed(scheme, Packet::PacketAf1f),
-        packet28: is_allowed(scheme, Packet::Packet28),
-        step: step_check(scaling, declared),
+        packets: packets_for(scaling),
         physical: Room::Places(physical),
     }
 }

@@ -8,10 +8,7 @@ use scale::physical::Filled;
 use scale::physical::Scheme;
 use symbology::figures::Figures;
 use symbology::figures::FiguresRead;
-ghost use mathlib.Core.Path.{_≡_};
-ghost use lib.ListN.{length};
-ghost use Rattle.bytes.specs.Result.{lent};
-ghost use Rattle.sweep.specs.Sweep.{sweepOf, sweepIn, answerOf};
+ghost use Rattle.sweep.specs.Sweep.{buffers, Ran};
 
 // What acceptance gives beside the picture. The token stands at `token` in the file: product there, site three bytes on.
 pub struct Sweep {
@@ -38,10 +35,9 @@ pub fn read_sweep(
     codes: &mut [u16],
     physical: &mut [f32],
 ) -> SweepAnswer
-    ensures { λ r. ⌜ answerOf r ≡ sweepIn (sweepOf scheme (now (file .entry)) clock (now (body .entry)) (length (now (azimuths .entry))) (length (now (codes .entry))) (length (now (physical .entry)))) ⌝ }
-    ensures { λ r. ⌜ now (azimuths .exit) ≡ lent (sweepOf scheme (now (file .entry)) clock (now (body .entry)) (length (now (azimuths .entry))) (length (now (codes .entry))) (length (now (physical .entry)))) (λ p. p .azimuths) (now (azimuths .entry)) ⌝ }
-    ensures { λ r. ⌜ now (codes .exit) ≡ lent (sweepOf scheme (now (file .entry)) clock (now (body .entry)) (length (now (azimuths .entry))) (length (now (codes .entry))) (length (now (physical .entry)))) (λ p. p .codes) (now (codes .entry)) ⌝ }
-    ensures { λ r. ⌜ now (physical .exit) ≡ lent (sweepOf scheme (now (file .entry)) clock (now (body .entry)) (length (now (azimuths .entry))) (length (now (codes .entry))) (length (now (physical .entry)))) (λ p. p .physical) (now (physical .entry)) ⌝ }
+    ensures { λ r. ⌜ Ran scheme (now (file .entry)) clock (now (body .entry))
+        (buffers (now (azimuths .entry)) (now (codes .entry)) (now (physical .entry)))
+        (buffers (now (azimuths .exit)) (now (codes .exit)) (now (physical .exit))) r ⌝ }
 {
     let head = match crate::plan::read_head(scheme, file, clock) {
         HeadRead::Value(h) => h,
@@ -50,7 +46,7 @@ pub fn read_sweep(
     let fields = head.fields;
     let scaling = head.scaling;
     let read = scale::physical::declared_scale(scaling);
-    let terms = crate::plan::terms_for(scheme, scaling, read, physical.len());
+    let terms = crate::plan::terms_for(scaling, physical.len());
     let figures = match symbology::symbology::decode_for(body, terms, azimuths, codes) {
         FiguresRead::Value(f) => f,
         FiguresRead::Refused(e) => return SweepAnswer::Refused(e),

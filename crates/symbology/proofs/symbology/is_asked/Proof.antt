@@ -2,8 +2,6 @@ use Rattle.symbology.specs.Answers.{asked}
 use borrow.Author.Needs.{needs}
 use Rattle.symbology.proofs.symbology.is_asked.Statement.{statement}
 use Rattle.symbology.proofs.symbology.is_asked.Tie as tie
-use Rattle.symbology.proofs.symbology.is_asked.Reads as reads
-use Rattle.symbology.proofs.symbology.is_asked.Lts as lts
 
 enum-told : tie.Need-enum-told
 enum-told c = search needs

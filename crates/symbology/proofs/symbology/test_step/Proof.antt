@@ -3,8 +3,6 @@ use lib.Ieee.{le, ofBits}
 use borrow.Author.Needs.{needs}
 use Rattle.symbology.proofs.symbology.test_step.Statement.{statement}
 use Rattle.symbology.proofs.symbology.test_step.Tie as tie
-use Rattle.symbology.proofs.symbology.test_step.Reads as reads
-use Rattle.symbology.proofs.symbology.test_step.Lts as lts
 
 enum-told : tie.Need-enum-told
 enum-told c = search needs

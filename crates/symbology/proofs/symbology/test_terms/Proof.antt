@@ -4,8 +4,6 @@ use mathlib.Core.Path.{sym, ap, _∙_}
 use borrow.Author.Needs.{needs}
 use Rattle.symbology.proofs.symbology.test_terms.Statement.{statement}
 use Rattle.symbology.proofs.symbology.test_terms.Tie as tie
-use Rattle.symbology.proofs.symbology.test_terms.Reads as reads
-use Rattle.symbology.proofs.symbology.test_terms.Lts as lts
 
 is-asked-requires : tie.Need-is-asked-requires
 is-asked-requires c κs = search needs
