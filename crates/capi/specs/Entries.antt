@@ -2,6 +2,7 @@
 use Prim.Native.Nat.{ℕ}
 use mathlib.Core.List.{List, [], _∷_}
 use mathlib.Core.Bool.{cond, _&&_}
+use mathlib.Core.Path.{_≡_}
 use lib.ListN.{length}
 use lib.Dec.{eqb}
 use lib.Ieee.{Float}
@@ -14,14 +15,15 @@ use Rattle.scale.specs.Legacy.{levelsOf}
 use Rattle.scale.specs.Physical.{fillOf}
 use Rattle.scale.specs.declared.physical.Scheme.{Scheme}
 use Rattle.scale.specs.declared.physical.Scheme.the-variants as Scheme
-use Rattle.sweep.specs.Sweep.{Accepted, sweepOf}
+use Rattle.symbology.specs.Answers.{Picture, figuresIn}
+use Rattle.sweep.specs.Sweep.{Accepted, sweepIn, Buffers, readInto}
 use Rattle.xdr.specs.Xdr as Xdr
 use Rattle.xdr.specs.Answers.{done, stringPart, arrayPart}
 use Rattle.capi.specs.declared.report.Report.{Report}
 use Rattle.capi.specs.declared.sweeps.Asked.{Asked}
 use Rattle.capi.specs.declared.sweeps.Asked.the-variants as Asked
-use Rattle.capi.specs.Report.{reportOf, endedReport, Said, said, failed, saying, choice}
-use Rattle.capi.specs.Places.{noReport, numberReport, signedReport, floatReport, pairReport, partReport}
+use Rattle.capi.specs.Report.{reportOf, endedReport, Said, said, failed, saying, choice, roomFirst, Leaves, lentBy}
+use Rattle.capi.specs.Places.{noReport, numberReport, signedReport, floatReport, pairReport, partReport, figuresReport, sweepReport}
 
 -- a field, by its kind: i16, u16, i32, a pair of f32
 abbrev pub fieldSaid : List ℕ → ℕ → ℕ → ℕ → Said Report
@@ -54,9 +56,22 @@ codesSaid n = cond (eqb n 26) (said codes) (failed 101)
 abbrev pub schemeSaid : ℕ → Float → Said Scheme
 schemeSaid n x = choice n (Scheme.Halfword ∷ Scheme.Float ∷ Scheme.Precipitation x ∷ Scheme.Legacy x ∷ Scheme.Class ∷ [])
 
--- the sweep, for buffers of `na`, `nc` and `np` places
-abbrev pub sweepSaid : ℕ → Float → List ℕ → ℕ → List ℕ → ℕ → ℕ → ℕ → Said (Result Accepted)
-sweepSaid n x file clock body na nc np = saying (λ scheme. sweepOf scheme file clock body na nc np) (schemeSaid n x)
+-- the sweep, read into buffers that hold `old`
+abbrev pub sweepSaid : ℕ → Float → List ℕ → ℕ → List ℕ → Buffers → Said (Result Accepted)
+sweepSaid n x file clock body old = saying (λ scheme. readInto scheme file clock body old) (schemeSaid n x)
+
+-- What l3_sweep returns and leaves in the report's buffers and in the three that it is lent, where it has s to say.
+pub record SweepLeaves (s : Buffers → Said (Result Accepted)) (number : ℕ) (old new : Buffers) (ints ints' : List ℕ) (floats floats' : List Float) : Type 0 where
+  pub report : Leaves (saying (λ a. reportOf (sweepIn a) sweepReport) (s old)) number ints ints' floats floats'
+  pub azimuths : new .azimuths ≡ lentBy (roomFirst ints floats (s old)) (λ p. p .azimuths) (old .azimuths)
+  pub codes : new .codes ≡ lentBy (roomFirst ints floats (s old)) (λ p. p .codes) (old .codes)
+  pub physical : new .physical ≡ lentBy (roomFirst ints floats (s old)) (λ p. p .physical) (old .physical)
+
+-- The same of l3_symbology, which reads a body by d into two buffers that held az and cs.
+pub record PictureLeaves (d : ℕ → ℕ → Result Picture) (number : ℕ) (az az' : List Float) (cs cs' : List ℕ) (ints ints' : List ℕ) (floats floats' : List Float) : Type 0 where
+  pub report : Leaves (said (reportOf (figuresIn (d (length az) (length cs))) figuresReport)) number ints ints' floats floats'
+  pub azimuths : az' ≡ lentBy (roomFirst ints floats (said (d (length az) (length cs)))) (λ p. p .azimuths) az
+  pub codes : cs' ≡ lentBy (roomFirst ints floats (said (d (length az) (length cs)))) (λ p. p .codes) cs
 
 -- the values of the codes, for a buffer of `np` places
 abbrev pub physicalSaid : ℕ → Float → List ℕ → ℕ → List ℕ → ℕ → Said (Result (List Float))

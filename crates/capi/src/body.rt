@@ -7,11 +7,11 @@ use crate::report::write_report;
 use symbology::figures::FiguresRead;
 use symbology::trailing::Check;
 ghost use mathlib.Core.Path.{_≡_};
-ghost use lib.ListN.{length};
-ghost use Rattle.symbology.specs.Answers.{checkOf, figuresOf, figuresIn, decodeOf};
+ghost use Rattle.symbology.specs.Answers.{checkOf, figuresOf, decodeOf};
 ghost use Rattle.symbology.specs.Trailing.{trailing};
-ghost use Rattle.capi.specs.Report.{reportOf, said, roomFirst, Leaves, lentBy};
+ghost use Rattle.capi.specs.Report.{reportOf, said, Leaves};
 ghost use Rattle.capi.specs.Places.{noReport, figuresReport};
+ghost use Rattle.capi.specs.Entries.{PictureLeaves};
 
 fn check_report(r: Check) -> Report
     ensures { λ x. ⌜ x ≡ reportOf (checkOf r) noReport ⌝ }
@@ -33,7 +33,8 @@ fn figures_report(r: FiguresRead) -> Report
 
 #[no_mangle]
 pub extern "C" fn l3_trailing(bytes: &[u8], ints: &mut [u64], floats: &mut [f64]) -> u32
-    ensures { λ r. ⌜ Leaves (said (reportOf (trailing (now (bytes .entry))) noReport)) r (now (ints .entry)) (now (ints .exit)) (now (floats .entry)) (now (floats .exit)) ⌝ }
+    ensures { λ r. ⌜ Leaves (said (reportOf (trailing (now (bytes .entry))) noReport))
+        r (now (ints .entry)) (now (ints .exit)) (now (floats .entry)) (now (floats .exit)) ⌝ }
 {
     let answer = symbology::trailing::check_trailing(bytes);
     write_report(check_report(answer), ints, floats)
@@ -47,9 +48,9 @@ pub extern "C" fn l3_symbology(
     ints: &mut [u64],
     floats: &mut [f64],
 ) -> u32
-    ensures { λ r. ⌜ Leaves (said (reportOf (figuresIn (decodeOf (now (body .entry)) (length (now (azimuths .entry))) (length (now (codes .entry))))) figuresReport)) r (now (ints .entry)) (now (ints .exit)) (now (floats .entry)) (now (floats .exit)) ⌝ }
-    ensures { λ _. ⌜ now (azimuths .exit) ≡ lentBy (roomFirst (now (ints .entry)) (now (floats .entry)) (said (decodeOf (now (body .entry)) (length (now (azimuths .entry))) (length (now (codes .entry)))))) (λ p. p .azimuths) (now (azimuths .entry)) ⌝ }
-    ensures { λ _. ⌜ now (codes .exit) ≡ lentBy (roomFirst (now (ints .entry)) (now (floats .entry)) (said (decodeOf (now (body .entry)) (length (now (azimuths .entry))) (length (now (codes .entry)))))) (λ p. p .codes) (now (codes .entry)) ⌝ }
+    ensures { λ r. ⌜ PictureLeaves (decodeOf (now (body .entry))) r
+        (now (azimuths .entry)) (now (azimuths .exit)) (now (codes .entry)) (now (codes .exit))
+        (now (ints .entry)) (now (ints .exit)) (now (floats .entry)) (now (floats .exit)) ⌝ }
 {
     if is_short(ints.len(), floats.len()) {
         return 100;

@@ -31,7 +31,8 @@ fn time_report(r: TimeRead) -> Report
 
 #[no_mangle]
 pub extern "C" fn l3_token(file: &[u8], ints: &mut [u64], floats: &mut [f64]) -> u32
-    ensures { λ r. ⌜ Leaves (said (reportOf (token (now (file .entry))) numberReport)) r (now (ints .entry)) (now (ints .exit)) (now (floats .entry)) (now (floats .exit)) ⌝ }
+    ensures { λ r. ⌜ Leaves (said (reportOf (token (now (file .entry))) numberReport))
+        r (now (ints .entry)) (now (ints .exit)) (now (floats .entry)) (now (floats .exit)) ⌝ }
 {
     let answer = head::header::find_awips_token(file);
     write_report(place_report(answer), ints, floats)
@@ -39,7 +40,8 @@ pub extern "C" fn l3_token(file: &[u8], ints: &mut [u64], floats: &mut [f64]) ->
 
 #[no_mangle]
 pub extern "C" fn l3_message_header(file: &[u8], ints: &mut [u64], floats: &mut [f64]) -> u32
-    ensures { λ r. ⌜ Leaves (said (reportOf (messageHeader (now (file .entry))) numberReport)) r (now (ints .entry)) (now (ints .exit)) (now (floats .entry)) (now (floats .exit)) ⌝ }
+    ensures { λ r. ⌜ Leaves (said (reportOf (messageHeader (now (file .entry))) numberReport))
+        r (now (ints .entry)) (now (ints .exit)) (now (floats .entry)) (now (floats .exit)) ⌝ }
 {
     let answer = head::header::find_message_header(file);
     write_report(place_report(answer), ints, floats)
@@ -53,7 +55,8 @@ pub extern "C" fn l3_scan_time(
     ints: &mut [u64],
     floats: &mut [f64],
 ) -> u32
-    ensures { λ r. ⌜ Leaves (said (reportOf (scanTime days seconds clock) numberReport)) r (now (ints .entry)) (now (ints .exit)) (now (floats .entry)) (now (floats .exit)) ⌝ }
+    ensures { λ r. ⌜ Leaves (said (reportOf (scanTime days seconds clock) numberReport))
+        r (now (ints .entry)) (now (ints .exit)) (now (floats .entry)) (now (floats .exit)) ⌝ }
 {
     let answer = head::header::scan_time(days, seconds, clock);
     write_report(time_report(answer), ints, floats)

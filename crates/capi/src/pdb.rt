@@ -85,7 +85,8 @@ pub extern "C" fn l3_field(
     ints: &mut [u64],
     floats: &mut [f64],
 ) -> u32
-    ensures { λ r. ⌜ Leaves (fieldSaid (now (file .entry)) block index kind) r (now (ints .entry)) (now (ints .exit)) (now (floats .entry)) (now (floats .exit)) ⌝ }
+    ensures { λ r. ⌜ Leaves (fieldSaid (now (file .entry)) block index kind)
+        r (now (ints .entry)) (now (ints .exit)) (now (floats .entry)) (now (floats .exit)) ⌝ }
 {
     if kind == 0 {
         let answer = head::pdb::hw_i16(file, block, index);
@@ -108,7 +109,8 @@ pub extern "C" fn l3_field(
 
 #[no_mangle]
 pub extern "C" fn l3_pdb(file: &[u8], block: usize, ints: &mut [u64], floats: &mut [f64]) -> u32
-    ensures { λ r. ⌜ Leaves (said (reportOf (pdbFields (now (file .entry)) block) fieldsReport)) r (now (ints .entry)) (now (ints .exit)) (now (floats .entry)) (now (floats .exit)) ⌝ }
+    ensures { λ r. ⌜ Leaves (said (reportOf (pdbFields (now (file .entry)) block) fieldsReport))
+        r (now (ints .entry)) (now (ints .exit)) (now (floats .entry)) (now (floats .exit)) ⌝ }
 {
     let answer = head::pdb::read_pdb_fields(file, block);
     write_report(fields_report(answer), ints, floats)

@@ -12,7 +12,9 @@ use symbology::figures::Figures;
 use symbology::figures::Geometry;
 use symbology::figures::Packet;
 ghost use mathlib.Core.Path.{_≡_};
-ghost use Rattle.capi.specs.Places.{placed, noHead, noPicture, noScale, headPlaces, packetNumber, rangeScale, gateWidth, firstGate, picturePlaces, linearPlaces, ceilingNumber, precipPlaces, declaredPlaces, fieldsReport, figuresReport, linearReport, precipReport, sweepReport};
+ghost use Rattle.capi.specs.Places.{placed, noHead, noPicture, noScale, headPlaces, packetNumber, rangeScale, gateWidth, firstGate};
+ghost use Rattle.capi.specs.Places.{picturePlaces, linearPlaces, ceilingNumber, precipPlaces, declaredPlaces, fieldsReport, figuresReport};
+ghost use Rattle.capi.specs.Places.{linearReport, precipReport, sweepReport};
 
 pub struct HeadPlaces {
     pub token: u64,

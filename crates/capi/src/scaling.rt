@@ -57,7 +57,8 @@ fn filled_report(r: Filled) -> Report
 
 #[no_mangle]
 pub extern "C" fn l3_linear(file: &[u8], block: usize, ints: &mut [u64], floats: &mut [f64]) -> u32
-    ensures { λ r. ⌜ Leaves (said (reportOf (valueScalingLinearHw (now (file .entry)) block) linearReport)) r (now (ints .entry)) (now (ints .exit)) (now (floats .entry)) (now (floats .exit)) ⌝ }
+    ensures { λ r. ⌜ Leaves (said (reportOf (valueScalingLinearHw (now (file .entry)) block) linearReport))
+        r (now (ints .entry)) (now (ints .exit)) (now (floats .entry)) (now (floats .exit)) ⌝ }
 {
     let answer = scale::pdb::value_scaling_linear_hw(file, block);
     write_report(linear_report(answer), ints, floats)
@@ -65,7 +66,8 @@ pub extern "C" fn l3_linear(file: &[u8], block: usize, ints: &mut [u64], floats:
 
 #[no_mangle]
 pub extern "C" fn l3_float(file: &[u8], block: usize, ints: &mut [u64], floats: &mut [f64]) -> u32
-    ensures { λ r. ⌜ Leaves (said (reportOf (valueScalingFloat (now (file .entry)) block) linearReport)) r (now (ints .entry)) (now (ints .exit)) (now (floats .entry)) (now (floats .exit)) ⌝ }
+    ensures { λ r. ⌜ Leaves (said (reportOf (valueScalingFloat (now (file .entry)) block) linearReport))
+        r (now (ints .entry)) (now (ints .exit)) (now (floats .entry)) (now (floats .exit)) ⌝ }
 {
     let answer = scale::pdb::value_scaling_float(file, block);
     write_report(linear_report(answer), ints, floats)
@@ -79,7 +81,8 @@ pub extern "C" fn l3_precip(
     ints: &mut [u64],
     floats: &mut [f64],
 ) -> u32
-    ensures { λ r. ⌜ Leaves (said (reportOf (precipFamilyScale (now (file .entry)) block factor) precipReport)) r (now (ints .entry)) (now (ints .exit)) (now (floats .entry)) (now (floats .exit)) ⌝ }
+    ensures { λ r. ⌜ Leaves (said (reportOf (precipFamilyScale (now (file .entry)) block factor) precipReport))
+        r (now (ints .entry)) (now (ints .exit)) (now (floats .entry)) (now (floats .exit)) ⌝ }
 {
     let answer = scale::pdb::precip_family_scale(file, block, factor);
     write_report(precip_report(answer), ints, floats)
@@ -106,8 +109,11 @@ pub extern "C" fn l3_threshold(
     ints: &mut [u64],
     floats: &mut [f64],
 ) -> u32
-    ensures { λ r. ⌜ Leaves (saying (λ a. reportOf a noReport) (thresholdSaid (now (file .entry)) block (length (now (thresholds .entry))))) r (now (ints .entry)) (now (ints .exit)) (now (floats .entry)) (now (floats .exit)) ⌝ }
-    ensures { λ _. ⌜ now (thresholds .exit) ≡ lentBy (roomFirst (now (ints .entry)) (now (floats .entry)) (thresholdSaid (now (file .entry)) block (length (now (thresholds .entry))))) (λ k. take 32 (drop k (now (file .entry)))) (now (thresholds .entry)) ⌝ }
+    ensures { λ r. ⌜ Leaves (saying (λ a. reportOf a noReport) (thresholdSaid (now (file .entry)) block (length (now (thresholds .entry)))))
+        r (now (ints .entry)) (now (ints .exit)) (now (floats .entry)) (now (floats .exit)) ⌝ }
+    ensures { λ _. ⌜ now (thresholds .exit)
+        ≡ lentBy (roomFirst (now (ints .entry)) (now (floats .entry)) (thresholdSaid (now (file .entry)) block (length (now (thresholds .entry)))))
+        (λ k. take 32 (drop k (now (file .entry)))) (now (thresholds .entry)) ⌝ }
 {
     if is_short(ints.len(), floats.len()) {
         return 100;
@@ -125,7 +131,8 @@ pub extern "C" fn l3_threshold(
 #[no_mangle]
 pub extern "C" fn l3_legacy16(thresholds: &[u8], post_scale: f32, levels: &mut [f32]) -> u32
     ensures { λ r. ⌜ r ≡ plainNumber (levelsSaid (now (thresholds .entry)) «post_scale» (length (now (levels .entry)))) ⌝ }
-    ensures { λ _. ⌜ now (levels .exit) ≡ plainAfter (levelsSaid (now (thresholds .entry)) «post_scale» (length (now (levels .entry)))) (now (levels .entry)) ⌝ }
+    ensures { λ _. ⌜ now (levels .exit)
+        ≡ plainAfter (levelsSaid (now (thresholds .entry)) «post_scale» (length (now (levels .entry)))) (now (levels .entry)) ⌝ }
 {
     if thresholds.len() != 32 {
         return 101;
@@ -151,8 +158,12 @@ pub extern "C" fn l3_physical(
     ints: &mut [u64],
     floats: &mut [f64],
 ) -> u32
-    ensures { λ r. ⌜ Leaves (saying (λ a. reportOf a noReport) (physicalSaid scheme parameter (now (file .entry)) block (now (codes .entry)) (length (now (physical .entry))))) r (now (ints .entry)) (now (ints .exit)) (now (floats .entry)) (now (floats .exit)) ⌝ }
-    ensures { λ _. ⌜ now (physical .exit) ≡ lentBy (roomFirst (now (ints .entry)) (now (floats .entry)) (physicalSaid scheme parameter (now (file .entry)) block (now (codes .entry)) (length (now (physical .entry))))) (λ values. values) (now (physical .entry)) ⌝ }
+    ensures { λ r. ⌜ Leaves (saying (λ a. reportOf a noReport)
+        (physicalSaid scheme parameter (now (file .entry)) block (now (codes .entry)) (length (now (physical .entry))))) r
+        (now (ints .entry)) (now (ints .exit)) (now (floats .entry)) (now (floats .exit)) ⌝ }
+    ensures { λ _. ⌜ now (physical .exit) ≡ lentBy (roomFirst (now (ints .entry)) (now (floats .entry))
+        (physicalSaid scheme parameter (now (file .entry)) block (now (codes .entry)) (length (now (physical .entry)))))
+        (λ values. values) (now (physical .entry)) ⌝ }
 {
     if is_short(ints.len(), floats.len()) {
         return 100;

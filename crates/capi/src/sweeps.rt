@@ -6,11 +6,10 @@ use crate::report::write_report;
 use scale::physical::Scheme;
 use sweep::sweep::SweepAnswer;
 ghost use mathlib.Core.Path.{_≡_};
-ghost use lib.ListN.{length};
-ghost use Rattle.sweep.specs.Sweep.{answerOf, sweepIn};
-ghost use Rattle.capi.specs.Report.{reportOf, saying, roomFirst, Leaves, lentBy};
+ghost use Rattle.sweep.specs.Sweep.{answerOf, buffers};
+ghost use Rattle.capi.specs.Report.{reportOf};
 ghost use Rattle.capi.specs.Places.{sweepReport};
-ghost use Rattle.capi.specs.Entries.{schemeSaid, sweepSaid, askedOf};
+ghost use Rattle.capi.specs.Entries.{schemeSaid, sweepSaid, SweepLeaves, askedOf};
 
 // The scheme that is asked for.
 pub enum Asked {
@@ -63,10 +62,10 @@ pub extern "C" fn l3_sweep(
     ints: &mut [u64],
     floats: &mut [f64],
 ) -> u32
-    ensures { λ r. ⌜ Leaves (saying (λ a. reportOf (sweepIn a) sweepReport) (sweepSaid scheme parameter (now (file .entry)) clock (now (body .entry)) (length (now (azimuths .entry))) (length (now (codes .entry))) (length (now (physical .entry))))) r (now (ints .entry)) (now (ints .exit)) (now (floats .entry)) (now (floats .exit)) ⌝ }
-    ensures { λ _. ⌜ now (azimuths .exit) ≡ lentBy (roomFirst (now (ints .entry)) (now (floats .entry)) (sweepSaid scheme parameter (now (file .entry)) clock (now (body .entry)) (length (now (azimuths .entry))) (length (now (codes .entry))) (length (now (physical .entry))))) (λ p. p .azimuths) (now (azimuths .entry)) ⌝ }
-    ensures { λ _. ⌜ now (codes .exit) ≡ lentBy (roomFirst (now (ints .entry)) (now (floats .entry)) (sweepSaid scheme parameter (now (file .entry)) clock (now (body .entry)) (length (now (azimuths .entry))) (length (now (codes .entry))) (length (now (physical .entry))))) (λ p. p .codes) (now (codes .entry)) ⌝ }
-    ensures { λ _. ⌜ now (physical .exit) ≡ lentBy (roomFirst (now (ints .entry)) (now (floats .entry)) (sweepSaid scheme parameter (now (file .entry)) clock (now (body .entry)) (length (now (azimuths .entry))) (length (now (codes .entry))) (length (now (physical .entry))))) (λ p. p .physical) (now (physical .entry)) ⌝ }
+    ensures { λ r. ⌜ SweepLeaves (sweepSaid scheme parameter (now (file .entry)) clock (now (body .entry))) r
+        (buffers (now (azimuths .entry)) (now (codes .entry)) (now (physical .entry)))
+        (buffers (now (azimuths .exit)) (now (codes .exit)) (now (physical .exit)))
+        (now (ints .entry)) (now (ints .exit)) (now (floats .entry)) (now (floats .exit)) ⌝ }
 {
     if is_short(ints.len(), floats.len()) {
         return 100;

@@ -16,7 +16,8 @@ ghost use Rattle.bytes.specs.Float.{whole32, f32};
 ghost use Rattle.bytes.specs.Text.{all};
 ghost use Rattle.bytes.specs.Result.{accepted, then, lent};
 ghost use Rattle.scale.specs.Pdb.{thresholdPlace};
-ghost use Rattle.scale.specs.Physical.{openValue, cappedValue, classValue, hasLevel, levelOf, scaledLevelOf, precipValue, valueOf, filled, scaleFields, declaredScale, fillOf, Ready};
+ghost use Rattle.scale.specs.Physical.{openValue, cappedValue, classValue, hasLevel, levelOf, scaledLevelOf, precipValue, valueOf, filled};
+ghost use Rattle.scale.specs.Physical.{scaleFields, declaredScale, fillOf, Ready};
 ghost use Rattle.scale.specs.Outcome.{linearOf, precipOf, scalingOf, declaredScaleOf, filledOf};
 
 // How raw codes are coded.
@@ -283,7 +284,8 @@ fn known_level(unscaled: &[f32; 16], post_scale: f32, codes: &[u16], i: usize) -
 // store each value alone.
 fn fill_known_levels(unscaled: &[f32; 16], post_scale: f32, codes: &[u16], physical: &mut [f32])
     requires { ⌜ (all hasLevel (now codes) ≡ true) × (length (now codes) ≤ length (now physical)) ⌝ }
-    ensures { λ _. ⌜ now (physical .exit) ≡ filled (scaledLevelOf (now (unscaled .entry)) «post_scale») (now (codes .entry)) (now (physical .entry)) ⌝ }
+    ensures { λ _. ⌜ now (physical .exit)
+        ≡ filled (scaledLevelOf (now (unscaled .entry)) «post_scale») (now (codes .entry)) (now (physical .entry)) ⌝ }
 {
     let mut i = 0usize;
     while codes.len() - i >= 4 {
@@ -305,7 +307,8 @@ fn fill_known_levels(unscaled: &[f32; 16], post_scale: f32, codes: &[u16], physi
 
 fn fill_any_levels(unscaled: &[f32; 16], post_scale: f32, codes: &[u16], physical: &mut [f32])
     requires { ⌜ length (now codes) ≤ length (now physical) ⌝ }
-    ensures { λ _. ⌜ now (physical .exit) ≡ filled (scaledLevelOf (now (unscaled .entry)) «post_scale») (now (codes .entry)) (now (physical .entry)) ⌝ }
+    ensures { λ _. ⌜ now (physical .exit)
+        ≡ filled (scaledLevelOf (now (unscaled .entry)) «post_scale») (now (codes .entry)) (now (physical .entry)) ⌝ }
 {
     let mut i = 0usize;
     while i < codes.len() {
@@ -316,7 +319,8 @@ fn fill_any_levels(unscaled: &[f32; 16], post_scale: f32, codes: &[u16], physica
 
 fn fill_levels(unscaled: &[f32; 16], post_scale: f32, codes: &[u16], physical: &mut [f32])
     requires { ⌜ length (now codes) ≤ length (now physical) ⌝ }
-    ensures { λ _. ⌜ now (physical .exit) ≡ filled (scaledLevelOf (now (unscaled .entry)) «post_scale») (now (codes .entry)) (now (physical .entry)) ⌝ }
+    ensures { λ _. ⌜ now (physical .exit)
+        ≡ filled (scaledLevelOf (now (unscaled .entry)) «post_scale») (now (codes .entry)) (now (physical .entry)) ⌝ }
 {
     if have_levels(codes) {
         fill_known_levels(unscaled, post_scale, codes, physical);
@@ -409,8 +413,11 @@ pub fn fill_physical(
     codes: &[u16],
     physical: &mut [f32],
 ) -> Filled
-    ensures { λ r. ⌜ filledOf r ≡ then (fillOf scheme (now (file .entry)) block (now (codes .entry)) (length (now (physical .entry)))) (λ _. accepted tt) ⌝ }
-    ensures { λ r. ⌜ now (physical .exit) ≡ lent (fillOf scheme (now (file .entry)) block (now (codes .entry)) (length (now (physical .entry)))) (λ values. values) (now (physical .entry)) ⌝ }
+    ensures { λ r. ⌜ filledOf r
+        ≡ then (fillOf scheme (now (file .entry)) block (now (codes .entry)) (length (now (physical .entry)))) (λ _. accepted tt) ⌝ }
+    ensures { λ r. ⌜ now (physical .exit)
+        ≡ lent (fillOf scheme (now (file .entry)) block (now (codes .entry)) (length (now (physical .entry))))
+        (λ values. values) (now (physical .entry)) ⌝ }
 {
     let v = match scale_fields(scheme, file, block) {
         ScalingRead::Value(v) => v,

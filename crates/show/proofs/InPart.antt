@@ -11,6 +11,7 @@ use lib.ListN.{length, take, length-map, length-take}
 use lib.Seq.{take-all, take-length, take-append-le}
 use borrow.Author.Tests.{leb-true, leb-false, le-ltb}
 use Rattle.bytes.specs.Refusal.{Refusal}
+use Rattle.bytes.specs.declared.error.Level3DecodeError.{Level3DecodeError}
 use Rattle.bytes.specs.Result.{Result, accepted, refused, then, lent}
 use Rattle.scale.specs.Physical.{physicalOf, fillOf}
 use Rattle.scale.specs.declared.physical.Declared.{Declared}
@@ -22,7 +23,10 @@ use Rattle.symbology.specs.declared.figures.Figures.{Figures}
 use Rattle.symbology.specs.declared.figures.Terms.{Terms}
 use Rattle.sweep.specs.declared.plan.Head.{Head}
 use Rattle.sweep.specs.declared.sweep.Sweep.{Sweep}
-use Rattle.sweep.specs.Sweep.{Accepted, sweepOf, sweepIn}
+use Rattle.sweep.specs.declared.sweep.SweepAnswer.{SweepAnswer}
+use Rattle.sweep.specs.declared.sweep.SweepAnswer.the-variants as SweepAnswer
+use Rattle.sweep.specs.Sweep.{Accepted, sweepOf, sweepIn, buffers, Ran}
+use Rattle.show.specs.InPart.{ReadInPart}
 use Rattle.sweep.proofs.Parts.{block-start, parts, sizes}
 use Rattle.sweep.proofs.Reading as reading
 
@@ -67,29 +71,26 @@ module _ (scheme : Scheme) (file : List ℕ) (clock : ℕ) (body : List ℕ) (az
   same = ap S (length-map cs (λ _. nan))
 
   -- what the code says and leaves
-  abbrev Reads : Result Sweep → List Float → List ℕ → List Float → Type 0
-  Reads r az' cs' ph' =
-      (r ≡ sweepIn (S (length cs)))
-      × ((az' ≡ lent (S (length cs)) (λ p. p .azimuths) az)
-      × ((cs' ≡ lent (S (length cs)) (λ p. p .codes) cs) × (ph' ≡ lent (S (length cs)) (λ p. take (length ph) (p .physical)) ph)))
+  abbrev Reads : SweepAnswer → List Float → List ℕ → List Float → Type 0
+  Reads r az' cs' ph' = ReadInPart scheme file clock body (buffers az cs ph) (buffers az' cs' ph') r
 
   -- the same of the long buffer
-  abbrev Told : Result Sweep → List Float → List ℕ → List Float → Type 0
-  Told r az' cs' ph' =
-      (r ≡ sweepIn (S (length (full cs))))
-      × ((az' ≡ lent (S (length (full cs))) (λ p. p .azimuths) az)
-      × ((cs' ≡ lent (S (length (full cs))) (λ p. p .codes) cs) × (ph' ≡ lent (S (length (full cs))) (λ p. p .physical) (full cs))))
+  abbrev Told : SweepAnswer → List Float → List ℕ → List Float → Type 0
+  Told r az' cs' ph' = Ran scheme file clock body (buffers az cs (full cs)) (buffers az' cs' ph') r
 
-  reads : {r : Result Sweep} {az' ph' values : List Float} {cs' : List ℕ} → Told r az' cs' values → ph' ≡ lent (S (length cs)) (λ p. take (length ph) (p .physical)) ph
+  reads : {r : SweepAnswer} {az' ph' values : List Float} {cs' : List ℕ} → Told r az' cs' values → ph' ≡ lent (S (length cs)) (λ p. take (length ph) (p .physical)) ph
       → Reads r az' cs' ph'
-  reads t v = (
-    t .0 ∙ ap sweepIn same,
-    (t .1 .0 ∙ ap (λ d. lent d (λ p. p .azimuths) az) same, (t .1 .1 .0 ∙ ap (λ d. lent d (λ p. p .codes) cs) same, v)),
-  )
+  reads t v =
+      record {
+        answered = t .answered ∙ ap sweepIn same;
+        azimuths = t .azimuths ∙ ap (λ d. lent d (λ p. p .azimuths) az) same;
+        codes = t .codes ∙ ap (λ d. lent d (λ p. p .codes) cs) same;
+        physical = v;
+      }
 
   -- a refusal there is one here, and writes nothing
-  pub refuses : {x : Refusal} {az' values : List Float} {cs' : List ℕ} → Told (refused x) az' cs' values → Reads (refused x) az' cs' ph
-  refuses t = reads t (sym (ap (λ d. lent d (λ p. take (length ph) (p .physical)) ph) (sym same ∙ refused-sweep _ (t .0))))
+  pub refuses : {x : Level3DecodeError} {az' values : List Float} {cs' : List ℕ} → Told (SweepAnswer.Refused x) az' cs' values → Reads (SweepAnswer.Refused x) az' cs' ph
+  refuses t = reads t (sym (ap (λ d. lent d (λ p. take (length ph) (p .physical)) ph) (sym same ∙ refused-sweep _ (t .answered))))
 
 -- ---- after symbology's entry has accepted
 
@@ -101,7 +102,7 @@ module _ {scheme : Scheme} {file : List ℕ} {clock : ℕ} {body : List ℕ} {az
   -- the answer on the long buffer, and the sweep that it is of
   on-full : (accepted (record { token = h .token; fields = h .fields; time = h .time; declared = reading.drawn-here w .declared; figures = f }) ≡ sweepIn Z)
       × (cs' ≡ lent Z (λ p. p .codes) cs)
-  on-full = let t = reading.read w c (reading.drawn-here w .declares) refl refl in (t .0, t .1 .1 .0)
+  on-full = let t = reading.read w c (reading.drawn-here w .declares) refl refl in (t .answered, t .codes)
 
   found : (q : Accepted) × (Z ≡ accepted q) × (q .sweep ≡ record { token = h .token; fields = h .fields; time = h .time; declared = reading.drawn-here w .declared; figures = f })
   found = accepted-sweep Z (on-full .0)
@@ -149,7 +150,8 @@ module _ {scheme : Scheme} {file : List ℕ} {clock : ℕ} {body : List ℕ} {az
     pub read : {declared : Declared} {az' ph' : List Float} → d ≡ DeclaredScaleRead.Value declared
         → az' ≡ lent (decodeFor t body (length az) (length cs)) (λ p. p .azimuths) az
         → ph' ≡ lent (fillOf scheme file (h .block) (take n cs') (length ph)) (λ values. values) ph
-        → Reads scheme file clock body az cs ph (accepted (record { token = h .token; fields = h .fields; time = h .time; declared = declared; figures = f })) az' cs' ph'
+        → Reads scheme file clock body az cs ph
+        (SweepAnswer.Accepted (record { token = h .token; fields = h .fields; time = h .time; declared = declared; figures = f })) az' cs' ph'
     read is a v =
         reads scheme file clock body az cs ph (reading.read w c is a refl)
         (v ∙ ap (λ r. lent r (λ values. values) ph) filled

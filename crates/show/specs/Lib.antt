@@ -1,2 +1,3 @@
+pub mod InPart
 pub mod Rounded
 pub mod Words

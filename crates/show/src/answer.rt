@@ -6,10 +6,8 @@ use sweep::plan::HeadRead;
 use sweep::sweep::Sweep;
 use sweep::sweep::SweepAnswer;
 use symbology::figures::FiguresRead;
-ghost use mathlib.Core.Path.{_≡_};
-ghost use lib.ListN.{length, take};
-ghost use Rattle.bytes.specs.Result.{lent};
-ghost use Rattle.sweep.specs.Sweep.{sweepOf, sweepIn, answerOf};
+ghost use Rattle.sweep.specs.Sweep.{buffers};
+ghost use Rattle.show.specs.InPart.{ReadInPart};
 
 // The sweep reading as it is with room for as many physical values as codes. `values` gets those that it has room for, the first ones.
 fn read(
@@ -21,10 +19,9 @@ fn read(
     codes: &mut [u16],
     values: &mut [f32],
 ) -> SweepAnswer
-    ensures { λ r. ⌜ answerOf r ≡ sweepIn (sweepOf scheme (now (file .entry)) clock (now (body .entry)) (length (now (azimuths .entry))) (length (now (codes .entry))) (length (now (codes .entry)))) ⌝ }
-    ensures { λ _. ⌜ now (azimuths .exit) ≡ lent (sweepOf scheme (now (file .entry)) clock (now (body .entry)) (length (now (azimuths .entry))) (length (now (codes .entry))) (length (now (codes .entry)))) (λ p. p .azimuths) (now (azimuths .entry)) ⌝ }
-    ensures { λ _. ⌜ now (codes .exit) ≡ lent (sweepOf scheme (now (file .entry)) clock (now (body .entry)) (length (now (azimuths .entry))) (length (now (codes .entry))) (length (now (codes .entry)))) (λ p. p .codes) (now (codes .entry)) ⌝ }
-    ensures { λ _. ⌜ now (values .exit) ≡ lent (sweepOf scheme (now (file .entry)) clock (now (body .entry)) (length (now (azimuths .entry))) (length (now (codes .entry))) (length (now (codes .entry)))) (λ p. take (length (now (values .entry))) (p .physical)) (now (values .entry)) ⌝ }
+    ensures { λ r. ⌜ ReadInPart scheme (now (file .entry)) clock (now (body .entry))
+        (buffers (now (azimuths .entry)) (now (codes .entry)) (now (values .entry)))
+        (buffers (now (azimuths .exit)) (now (codes .exit)) (now (values .exit))) r ⌝ }
 {
     let head = match sweep::plan::read_head(scheme, file, clock) {
         HeadRead::Value(h) => h,
@@ -32,7 +29,7 @@ fn read(
     };
     let scaling = head.scaling;
     let declared = scale::physical::declared_scale(scaling);
-    let terms = sweep::plan::terms_for(scheme, scaling, declared, codes.len());
+    let terms = sweep::plan::terms_for(scaling, codes.len());
     let figures = match symbology::symbology::decode_for(body, terms, azimuths, codes) {
         FiguresRead::Value(f) => f,
         FiguresRead::Refused(e) => return SweepAnswer::Refused(e),

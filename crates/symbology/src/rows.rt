@@ -172,7 +172,8 @@ fn write_runs(runs: &[u8], row: &mut [u16])
 // in a function of its own alone: where the bytes are used at once, it keeps them apart.
 fn low_first(buf: &[u8], at: usize) -> u32
     requires { ⌜ at + 4 ≤ length (now buf) ⌝ }
-    ensures { λ r. ⌜ r ≡ getD (now (buf .entry)) at 0 + getD (now (buf .entry)) (at + 1) 0 * 256 + getD (now (buf .entry)) (at + 2) 0 * 65536 + getD (now (buf .entry)) (at + 3) 0 * 16777216 ⌝ }
+    ensures { λ r. ⌜ r ≡ getD (now (buf .entry)) at 0 + getD (now (buf .entry)) (at + 1) 0 * 256
+        + getD (now (buf .entry)) (at + 2) 0 * 65536 + getD (now (buf .entry)) (at + 3) 0 * 16777216 ⌝ }
 {
     let a = byte(buf, at);
     let b = byte(buf, at + 1);

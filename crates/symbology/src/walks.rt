@@ -11,7 +11,8 @@ ghost use lib.ListN.{length};
 ghost use Rattle.bytes.specs.Result.{accepted, then, lent};
 ghost use Rattle.bytes.specs.Reading.{walk, run};
 ghost use Rattle.symbology.specs.Answers.{joined};
-ghost use Rattle.symbology.specs.Walk.{anyFrame, anyRadial, anyWalk, placeOf, placed, nextOf, position, endsAt, walkFrom, Accepted, rowIn, centreIn, sweepFrom, Plans};
+ghost use Rattle.symbology.specs.Walk.{anyFrame, anyRadial, anyWalk, placeOf, placed, nextOf, position, endsAt, walkFrom, Accepted, rowIn};
+ghost use Rattle.symbology.specs.Walk.{centreIn, sweepFrom, Plans};
 
 // A radial's centre and the place of its data.
 pub fn frame_span(
@@ -100,7 +101,8 @@ fn check_stretch(
     first: usize,
 ) -> Stretch
     requires { ⌜ («n_radials» ≤ 100000) × (first < «n_radials») ⌝ }
-    ensures { λ x. ⌜ then (nextOf (x .next)) (λ q. walkFrom packet «n_radials» «n_bins» (now (s .entry)) (x .checked) q) ≡ walkFrom packet «n_radials» «n_bins» (now (s .entry)) first start ⌝ }
+    ensures { λ x. ⌜ then (nextOf (x .next)) (λ q. walkFrom packet «n_radials» «n_bins» (now (s .entry)) (x .checked) q)
+        ≡ walkFrom packet «n_radials» «n_bins» (now (s .entry)) first start ⌝ }
     ensures { λ x. ⌜ (first < x .checked) × (x .checked ≤ «n_radials») ⌝ }
 {
     let mut at = start;
@@ -159,7 +161,8 @@ pub fn check_radials(
 // All radials with their figures.
 pub fn plan_radials(s: &[u8], at: usize, figures: Figures) -> PlanRead
     requires { ⌜ (figures .«n_radials» ≤ 100000) × (figures .«n_radials» * figures .«n_bins» ≤ 4000000) ⌝ }
-    ensures { λ r. ⌜ Plans r (now (s .entry)) (sweepFrom figures (run (anyWalk (figures .packet) (figures .«n_radials») (figures .«n_bins») (figures .«n_radials») 0) (now (s .entry)) at)) ⌝ }
+    ensures { λ r. ⌜ Plans r (now (s .entry)) (sweepFrom figures
+        (run (anyWalk (figures .packet) (figures .«n_radials») (figures .«n_bins») (figures .«n_radials») 0) (now (s .entry)) at)) ⌝ }
 {
     let packet = figures.packet;
     match check_radials(packet, s, at, figures.n_radials, figures.n_bins) {
@@ -184,7 +187,8 @@ fn write_radial(
     row: &mut [u16],
 ) -> Written
     requires { ⌜ («n_radials» ≤ 100000) × Accepted (run (anyRadial packet «n_radials» (length (now row)) r) (now s) at) ⌝ }
-    ensures { λ x. ⌜ accepted (x .centre, x .next) ≡ centreIn (run (anyRadial packet «n_radials» (length (now (row .entry))) r) (now (s .entry)) at) ⌝ }
+    ensures { λ x. ⌜ accepted (x .centre, x .next)
+        ≡ centreIn (run (anyRadial packet «n_radials» (length (now (row .entry))) r) (now (s .entry)) at) ⌝ }
     ensures { λ x. ⌜ now (row .exit) ≡ rowIn (run (anyRadial packet «n_radials» (length (now (row .entry))) r) (now (s .entry)) at) ⌝ }
 {
     let n_bins = row.len();
@@ -213,8 +217,10 @@ pub fn write_radials(
 )
     requires { ⌜ («n_radials» ≤ 100000) × Accepted (run (anyWalk packet «n_radials» «n_bins» «n_radials» 0) (now s) start) ⌝ }
     requires { ⌜ («n_radials» ≤ length (now azimuths)) × («n_radials» * «n_bins» ≤ length (now codes)) ⌝ }
-    ensures { λ _. ⌜ now (azimuths .exit) ≡ lent (run (anyWalk packet «n_radials» «n_bins» «n_radials» 0) (now (s .entry)) start) (λ g. g .value) (now (azimuths .entry)) ⌝ }
-    ensures { λ _. ⌜ now (codes .exit) ≡ lent (run (anyWalk packet «n_radials» «n_bins» «n_radials» 0) (now (s .entry)) start) (λ g. joined (g .rows)) (now (codes .entry)) ⌝ }
+    ensures { λ _. ⌜ now (azimuths .exit)
+        ≡ lent (run (anyWalk packet «n_radials» «n_bins» «n_radials» 0) (now (s .entry)) start) (λ g. g .value) (now (azimuths .entry)) ⌝ }
+    ensures { λ _. ⌜ now (codes .exit)
+        ≡ lent (run (anyWalk packet «n_radials» «n_bins» «n_radials» 0) (now (s .entry)) start) (λ g. joined (g .rows)) (now (codes .entry)) ⌝ }
 {
     let mut at = start;
     let mut cell: usize = 0;

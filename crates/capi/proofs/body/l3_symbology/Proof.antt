@@ -11,7 +11,7 @@ is-short-requires : tie.Need-is-short-requires
 is-short-requires c κs = search needs
 
 returns : tie.Need-returns
-returns c = let t = sym (c .before .is-short .ensures) ∙ c .if1 .taken in (none-left _ t, (simp t, simp t))
+returns c = let t = sym (c .before .is-short .ensures) ∙ c .if1 .taken in record { report = none-left _ t; azimuths = simp t; codes = simp t }
 
 decode-symbology-requires : tie.Need-decode-symbology-requires
 decode-symbology-requires c κs = search needs
@@ -36,7 +36,11 @@ same-length-4 c = search needs
 
 returns-2 : tie.Need-returns-2
 returns-2 c = let t = sym (c .before .before .before .before .before .before .before .before .before .before .before .before .before .before .before .before .is-short .ensures) ∙ c .before .before .before .before .before .before .before .before .before .before .before .before .before .before .before .if1 .left in
-    (by-report (c .before .before .before .before .before .before .before .figures-report .ensures ∙ ap (λ a. reportOf a figuresReport) (c .before .before .before .before .before .before .before .before .before .before .before .before .decode-symbology .ensures .0)) (c .before .before .before .before .write-report .ensures), (simp t (c .before .before .before .before .before .before .before .before .before .before .before .before .decode-symbology .ensures .1 .0), simp t (c .before .before .before .before .before .before .before .before .before .before .before .before .decode-symbology .ensures .1 .1)))
+    record {
+      report = by-report (c .before .before .before .before .before .before .before .figures-report .ensures ∙ ap (λ a. reportOf a figuresReport) (c .before .before .before .before .before .before .before .before .before .before .before .before .decode-symbology .ensures .answered)) (c .before .before .before .before .write-report .ensures);
+      azimuths = simp t (c .before .before .before .before .before .before .before .before .before .before .before .before .decode-symbology .ensures .azimuths);
+      codes = simp t (c .before .before .before .before .before .before .before .before .before .before .before .before .decode-symbology .ensures .codes);
+    }
 
 pub l3-symbology-spec : {M : Type 1} → statement M
 l3-symbology-spec =

@@ -12,7 +12,7 @@ is-short-requires : tie.Need-is-short-requires
 is-short-requires c κs = search needs
 
 returns : tie.Need-returns
-returns c = let t = sym (c .before .is-short .ensures) ∙ c .if1 .taken in (none-left _ t, (simp t, (simp t, simp t)))
+returns c = let t = sym (c .before .is-short .ensures) ∙ c .if1 .taken in record { report = none-left _ t; azimuths = simp t; codes = simp t; physical = simp t }
 
 scheme-of-requires : tie.Need-scheme-of-requires
 scheme-of-requires c κs = search needs
@@ -25,7 +25,8 @@ enum-told c = search needs
 
 returns-2 : tie.Need-returns-2
 returns-2 c = let t = sym (c .before .before .before .before .is-short .ensures) ∙ c .before .before .before .if1 .left in
-    rw (sym (c .before .before .scheme-of .ensures) ∙ ap askedOf (c .enum-told .given .1)) (fails (simp t) refl, (simp t, (simp t, simp t)))
+    let e = sym (c .before .before .scheme-of .ensures) ∙ ap askedOf (c .enum-told .given .1) in
+    record { report = rw e (fails (simp t) refl); azimuths = rw e (simp t); codes = rw e (simp t); physical = rw e (simp t) }
 
 read-sweep-requires : tie.Need-read-sweep-requires
 read-sweep-requires c κs = search needs
@@ -53,8 +54,13 @@ same-length-5 c = search needs
 
 returns-3 : tie.Need-returns-3
 returns-3 c = let t = sym (c .before .before .before .before .before .before .before .before .before .before .before .before .before .before .before .before .before .before .before .before .before .before .before .is-short .ensures) ∙ c .before .before .before .before .before .before .before .before .before .before .before .before .before .before .before .before .before .before .before .before .before .before .if1 .left in
-    rw (sym (c .before .before .before .before .before .before .before .before .before .before .before .before .before .before .before .before .before .before .before .before .before .scheme-of .ensures) ∙ ap askedOf (c .before .before .before .before .before .before .before .before .before .before .before .before .before .before .before .before .before .before .before .s .given .1))
-    (by-report (c .before .before .before .before .before .before .before .sweep-report .ensures ∙ ap (λ a. reportOf a sweepReport) (c .before .before .before .before .before .before .before .before .before .before .before .before .before .before .read-sweep .ensures .0)) (c .before .before .before .before .write-report .ensures), (simp t (c .before .before .before .before .before .before .before .before .before .before .before .before .before .before .read-sweep .ensures .1 .0), (simp t (c .before .before .before .before .before .before .before .before .before .before .before .before .before .before .read-sweep .ensures .1 .1 .0), simp t (c .before .before .before .before .before .before .before .before .before .before .before .before .before .before .read-sweep .ensures .1 .1 .1))))
+    let e = sym (c .before .before .before .before .before .before .before .before .before .before .before .before .before .before .before .before .before .before .before .before .before .scheme-of .ensures) ∙ ap askedOf (c .before .before .before .before .before .before .before .before .before .before .before .before .before .before .before .before .before .before .before .s .given .1) in
+    record {
+      report = rw e (by-report (c .before .before .before .before .before .before .before .sweep-report .ensures ∙ ap (λ a. reportOf a sweepReport) (c .before .before .before .before .before .before .before .before .before .before .before .before .before .before .read-sweep .ensures .answered)) (c .before .before .before .before .write-report .ensures));
+      azimuths = rw e (simp t (c .before .before .before .before .before .before .before .before .before .before .before .before .before .before .read-sweep .ensures .azimuths));
+      codes = rw e (simp t (c .before .before .before .before .before .before .before .before .before .before .before .before .before .before .read-sweep .ensures .codes));
+      physical = rw e (simp t (c .before .before .before .before .before .before .before .before .before .before .before .before .before .before .read-sweep .ensures .physical));
+    }
 
 pub l3-sweep-spec : {M : Type 1} → statement M
 l3-sweep-spec =

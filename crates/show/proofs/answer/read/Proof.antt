@@ -30,7 +30,7 @@ here c =
       head-is = ap headReadOf (sym (c .before .before .before .before .before .before .before .before .before .before .before .before .before .before .h .given .1)) ∙ c .before .before .before .before .before .before .before .before .before .before .before .before .before .before .before .before .read-head .ensures;
       declared-is = c .before .before .before .before .before .before .before .before .before .before .before .before .declared-scale .ensures;
       terms-are = rw length-map (c .before .before .before .before .before .before .before .before .before .before .before .terms-for .ensures);
-      figures-are = ap figuresOf (sym (c .before .before .f .given .1)) ∙ c .before .before .before .before .before .before .before .before .decode-for .ensures .0;
+      figures-are = ap figuresOf (sym (c .before .before .f .given .1)) ∙ c .before .before .before .before .before .before .before .before .decode-for .ensures .answered;
     }
 
 read-head-requires : tie.Need-read-head-requires
@@ -67,7 +67,7 @@ same-length-2 : tie.Need-same-length-2
 same-length-2 c = search needs
 
 returns-2 : tie.Need-returns-2
-returns-2 c = refuses _ _ _ _ (now (c .before .before .before .before .before .before .before .before .before .before .before .before .before .before .before .before .before .before .before .before .before .args .azimuths)) (now (c .before .before .before .before .before .before .before .before .before .before .before .before .before .before .before .before .before .before .before .before .before .args .codes)) (now (c .before .before .before .before .before .before .before .before .before .before .before .before .before .before .before .before .before .before .before .before .before .args .values)) (reading.body-refused _ _ _ _ (now (c .before .before .before .before .before .before .before .before .before .before .before .before .before .before .before .before .before .before .before .before .before .args .azimuths)) (now (c .before .before .before .before .before .before .before .before .before .before .before .before .before .before .before .before .before .before .before .before .before .args .codes)) (full (now (c .before .before .before .before .before .before .before .before .before .before .before .before .before .before .before .before .before .before .before .before .before .args .codes))) (c .before .before .before .before .before .before .before .before .before .before .before .before .before .h .given .0 .0) (c .before .before .before .before .before .before .before .before .before .before .before .declared-scale .result) (c .before .before .before .before .before .before .before .before .before .before .terms-for .result) (ap headReadOf (sym (c .before .before .before .before .before .before .before .before .before .before .before .before .before .h .given .1)) ∙ c .before .before .before .before .before .before .before .before .before .before .before .before .before .before .before .read-head .ensures) (c .before .before .before .before .before .before .before .before .before .before .before .declared-scale .ensures) (rw length-map (c .before .before .before .before .before .before .before .before .before .before .terms-for .ensures)) (ap figuresOf (sym (c .before .e2 .given .1)) ∙ c .before .before .before .before .before .before .before .decode-for .ensures .0) (c .before .before .before .before .before .before .before .decode-for .ensures .1 .0) (c .before .before .before .before .before .before .before .decode-for .ensures .1 .1))
+returns-2 c = refuses _ _ _ _ (now (c .before .before .before .before .before .before .before .before .before .before .before .before .before .before .before .before .before .before .before .before .before .args .azimuths)) (now (c .before .before .before .before .before .before .before .before .before .before .before .before .before .before .before .before .before .before .before .before .before .args .codes)) (now (c .before .before .before .before .before .before .before .before .before .before .before .before .before .before .before .before .before .before .before .before .before .args .values)) (reading.body-refused _ _ _ _ (now (c .before .before .before .before .before .before .before .before .before .before .before .before .before .before .before .before .before .before .before .before .before .args .azimuths)) (now (c .before .before .before .before .before .before .before .before .before .before .before .before .before .before .before .before .before .before .before .before .before .args .codes)) (full (now (c .before .before .before .before .before .before .before .before .before .before .before .before .before .before .before .before .before .before .before .before .before .args .codes))) (c .before .before .before .before .before .before .before .before .before .before .before .before .before .h .given .0 .0) (c .before .before .before .before .before .before .before .before .before .before .before .declared-scale .result) (c .before .before .before .before .before .before .before .before .before .before .terms-for .result) (ap headReadOf (sym (c .before .before .before .before .before .before .before .before .before .before .before .before .before .h .given .1)) ∙ c .before .before .before .before .before .before .before .before .before .before .before .before .before .before .before .read-head .ensures) (c .before .before .before .before .before .before .before .before .before .before .before .declared-scale .ensures) (rw length-map (c .before .before .before .before .before .before .before .before .before .before .terms-for .ensures)) (c .before .e2 .given .1) (c .before .before .before .before .before .before .before .decode-for .ensures))
 
 mul-cells : tie.Need-mul-cells
 mul-cells c = record { fits = omega (arith, reading.drawn-here (here c) .codes-room, c .before .before .before .before .before .before .before .before .before .before .before .before .before .before .before .before .before .before .before .before .before .before .good .1 .1 .1 .1 .1 .0) }
@@ -97,7 +97,7 @@ same-length-5 : tie.Need-same-length-5
 same-length-5 c = search needs
 
 returns-3 : tie.Need-returns-3
-returns-3 c = fill-accepts (now (c .before .before .before .before .before .before .before .before .before .before .before .before .before .before .before .before .before .before .before .before .before .before .before .before .before .before .before .before .before .before .before .args .values)) (here (c .before .before .before .before .before .before .before .before .before)) (c .before .before .before .before .before .before .before .before .before .before .before .before .before .before .before .before .before .decode-for .ensures .1 .1) (c .before .before .before .before .before .before .before .before .least .ensures) (ap filledOf (sym (c .before .e3 .given .1)) ∙ c .before .before .before .before .before .fill-physical .ensures .0)
+returns-3 c = fill-accepts (now (c .before .before .before .before .before .before .before .before .before .before .before .before .before .before .before .before .before .before .before .before .before .before .before .before .before .before .before .before .before .before .before .args .values)) (here (c .before .before .before .before .before .before .before .before .before)) (c .before .before .before .before .before .before .before .before .before .before .before .before .before .before .before .before .before .decode-for .ensures .codes) (c .before .before .before .before .before .before .before .before .least .ensures) (ap filledOf (sym (c .before .e3 .given .1)) ∙ c .before .before .before .before .before .fill-physical .ensures .0)
 
 enum-told : tie.Need-enum-told
 enum-told c = search needs
@@ -130,7 +130,7 @@ same-length-11 : tie.Need-same-length-11
 same-length-11 c = search needs
 
 returns-5 : tie.Need-returns-5
-returns-5 c = read (now (c .before .before .before .before .before .before .before .before .before .before .before .before .before .before .before .before .before .before .before .before .before .before .before .before .before .before .before .before .before .before .before .before .before .before .args .values)) (here (c .before .before .before .before .before .before .before .before .before .before .before .before)) (c .before .before .before .before .before .before .before .before .before .before .before .before .before .before .before .before .before .before .before .before .decode-for .ensures .1 .1) (c .before .before .before .before .before .before .before .before .before .before .before .least .ensures) (c .before .declared2 .given .1) (c .before .before .before .before .before .before .before .before .before .before .before .before .before .before .before .before .before .before .before .before .decode-for .ensures .1 .0) (c .before .before .before .before .before .before .before .before .fill-physical .ensures .1)
+returns-5 c = read (now (c .before .before .before .before .before .before .before .before .before .before .before .before .before .before .before .before .before .before .before .before .before .before .before .before .before .before .before .before .before .before .before .before .before .before .args .values)) (here (c .before .before .before .before .before .before .before .before .before .before .before .before)) (c .before .before .before .before .before .before .before .before .before .before .before .before .before .before .before .before .before .before .before .before .decode-for .ensures .codes) (c .before .before .before .before .before .before .before .before .before .before .before .least .ensures) (c .before .declared2 .given .1) (c .before .before .before .before .before .before .before .before .before .before .before .before .before .before .before .before .before .before .before .before .decode-for .ensures .azimuths) (c .before .before .before .before .before .before .before .before .fill-physical .ensures .1)
 
 pub read-spec : {M : Type 1} → statement M
 read-spec =
