@@ -2,21 +2,21 @@
  *
  * No function allocates, keeps anything between calls, reads a file or looks at a clock. Each returns on every input and reads and
  * writes only inside the arrays that it is given. An array passes as a pointer and a length in elements; its pointer must not be null,
- * also for length 0. The arrays that one call writes to must not overlap each other or the arrays that it reads.
+ * also for length 0. Arrays that a call only reads may overlap each other; one that it writes must overlap no other array of the call.
+ * Calls at the same time are safe if no call writes to an array that another one has; what is only read may be shared.
  *
  * What is returned:
  *   0        accepted (l3_known: 1 for a known code, else 0)
  *   1 to 36  refused; the number is the one of the README's table
- *   100      ints has fewer than 16 places, or floats fewer than 8
- *   101      an argument that the function does not take: an unknown scheme, kind or item, an array of another length than asked for
+ *   100      L3_SHORT_REPORT: ints has fewer than 16 places, or floats fewer than 8
+ *   101      L3_BAD_ARGUMENT: an argument that the function does not take: an unknown scheme, kind or item, an array of a length that is
+ *            not the one asked for
  * After 100 and 101 nothing is written. 100 comes first.
  *
  * The report: the first 16 places of ints and the first 8 of floats are written, and later places are left as they are. After a
  * refusal ints has its whole numbers in the table's order and floats its float, from place 0 on. Otherwise they have what stands below.
  * Places of which nothing is said hold 0. A number that takes all 64 bits (the index in refusal 3, the position of l3_xdr) stands in
  * ints as its bits.
- *   items in refusal 23    0 int, 1 uint, 2 float, 3 string body, 4 padding, 5 array body, 6 packet body
- *   buffers in refusal 36  0 azimuths, 1 codes, 2 physical
  *
  * A NaN in floats, azimuths, physical or levels has no particular sign or payload.
  */
@@ -30,54 +30,109 @@
 extern "C" {
 #endif
 
-/* The sweep of a file and its unpacked symbology body. clock is the present in seconds since 1970.
- * scheme: 0 halfword, 1 float, 2 precipitation (parameter is the factor), 3 legacy (parameter is the post-scale), 4 class.
+/* What is returned beside the refusals' numbers. */
+enum { L3_ACCEPTED = 0, L3_SHORT_REPORT = 100, L3_BAD_ARGUMENT = 101 };
+
+/* Places of ints; L3_INTS is how many there are. */
+enum {
+    L3_TOKEN = 0,         /* place of the AWIPS token in the file */
+    L3_PRODUCT_CODE = 1,
+    L3_VCP = 2,
+    L3_DAYS = 3,
+    L3_SECONDS = 4,
+    L3_TIME = 5,          /* scan time in seconds since 1970 */
+    L3_PACKET = 6,        /* one of the packets below */
+    L3_RADIALS = 7,
+    L3_BINS = 8,
+    L3_RANGE_SCALE = 9,   /* of packets 16 and AF1F */
+    L3_HAS_SCALE = 10,    /* 1 if a scale is declared, else 0 */
+    L3_LEVELS = 11,       /* its level count */
+    L3_FLOOR = 12,        /* its floor */
+    L3_CEILING = 13,      /* l3_precip alone: the ceiling, or -1 */
+    L3_POSITION = 15,     /* l3_xdr alone */
+    L3_INTS = 16
+};
+
+/* Places of floats; L3_FLOATS is how many there are. */
+enum {
+    L3_LATITUDE = 0,      /* degrees */
+    L3_LONGITUDE = 1,
+    L3_HEIGHT = 2,        /* m */
+    L3_ELEVATION = 3,     /* degrees */
+    L3_GATE_WIDTH = 4,    /* m, of packet 28 */
+    L3_FIRST_GATE = 5,
+    L3_MINIMUM = 6,       /* of the declared scale */
+    L3_STEP = 7,
+    L3_FLOATS = 8
+};
+
+enum { L3_PACKET_16 = 16, L3_PACKET_28 = 28, L3_PACKET_AF1F = 44831 };
+
+/* Schemes. parameter is the factor of L3_PRECIPITATION and the post-scale of L3_LEGACY: any float is taken, a NaN or an infinity too.
+ * Under the others it is not looked at. */
+enum { L3_HALFWORD = 0, L3_FLOAT = 1, L3_PRECIPITATION = 2, L3_LEGACY = 3, L3_CLASS = 4 };
+
+/* Kinds of l3_field, items of l3_xdr. */
+enum { L3_FIELD_I16 = 0, L3_FIELD_U16 = 1, L3_FIELD_I32 = 2, L3_FIELD_PAIR = 3 };
+enum { L3_XDR_INT = 0, L3_XDR_UINT = 1, L3_XDR_FLOAT = 2, L3_XDR_STRING = 3, L3_XDR_ARRAY = 4, L3_XDR_PARAMETERS = 5 };
+
+/* What ints[0] names in refusal 23, the item that is cut short, and in refusal 36, the buffer that is too short. */
+enum {
+    L3_CUT_INT = 0,
+    L3_CUT_UINT = 1,
+    L3_CUT_FLOAT = 2,
+    L3_CUT_STRING_BODY = 3,
+    L3_CUT_PADDING = 4,
+    L3_CUT_ARRAY_BODY = 5,
+    L3_CUT_PACKET_BODY = 6
+};
+enum { L3_AZIMUTHS = 0, L3_CODES = 1, L3_PHYSICAL = 2 };
+
+/* How many message codes are known. */
+enum { L3_KNOWN_CODES = 26 };
+
+/* The sweep of a file and its unpacked symbology body. clock is the present in seconds since 1970; one above 2^40 is refused with 6.
  * Accepted, the front of each buffer is written, and the rest left as it is: a centre in degrees for each radial to azimuths, the codes
- * by row to codes, their physical values to physical. After a refusal the buffers are as they were.
- *   ints[0]   place of the AWIPS token in the file       ints[8]   bins
- *   ints[1]   product code                               ints[9]   range scale of packets 16 and AF1F
- *   ints[2]   vcp                                        ints[10]  1 if a scale is declared, else 0
- *   ints[3]   days                                       ints[11]  its level count
- *   ints[4]   seconds                                    ints[12]  its floor
- *   ints[5]   scan time in seconds since 1970            floats[0] to [3]  latitude, longitude, height in m, elevation
- *   ints[6]   packet: 16, 44831 for AF1F, 28             floats[4], [5]    gate width and first gate in m, of packet 28
- *   ints[7]   radials                                    floats[6], [7]    minimum and step of the declared scale */
+ * by row to codes, their physical values to physical. After a refusal the buffers are as they were. ints[L3_TOKEN] to [L3_FLOOR] and
+ * all of floats are as named above. */
 uint32_t l3_sweep(const uint8_t *file, size_t file_len, uint64_t clock, uint32_t scheme, float parameter,
                   const uint8_t *body, size_t body_len, double *azimuths, size_t azimuths_len,
                   uint16_t *codes, size_t codes_len, float *physical, size_t physical_len,
                   int64_t *ints, size_t ints_len, double *floats, size_t floats_len);
 
-/* A symbology body alone, of any packet. ints[6] to [9], floats[4] and [5] and the two buffers as in l3_sweep. */
+/* A symbology body alone, of any packet. ints[L3_PACKET] to [L3_RANGE_SCALE], floats[L3_GATE_WIDTH] and [L3_FIRST_GATE] and the two
+ * buffers as in l3_sweep. */
 uint32_t l3_symbology(const uint8_t *body, size_t body_len, double *azimuths, size_t azimuths_len,
                       uint16_t *codes, size_t codes_len, int64_t *ints, size_t ints_len, double *floats, size_t floats_len);
 
 /* ints[0]: the place of the AWIPS token; the product stands there, and the site three bytes on. */
 uint32_t l3_token(const uint8_t *file, size_t file_len, int64_t *ints, size_t ints_len, double *floats, size_t floats_len);
 
-/* ints[0]: the place of the message header. The description block stands 18 bytes on. */
+/* ints[0]: the place of the message header. The description block stands 18 bytes on, and what follows it, the body or the bzip2
+ * stream that it is packed in, 120. */
 uint32_t l3_message_header(const uint8_t *file, size_t file_len, int64_t *ints, size_t ints_len,
                            double *floats, size_t floats_len);
 
-/* ints[0]: the scan time in seconds since 1970. */
+/* ints[0]: the scan time in seconds since 1970. clock as in l3_sweep. */
 uint32_t l3_scan_time(uint16_t days, int32_t seconds, uint64_t clock, int64_t *ints, size_t ints_len,
                       double *floats, size_t floats_len);
 
-/* Field index of the description block at place block. kind: 0 i16, 1 u16, 2 i32, with the value in ints[0]; 3 a pair of f32, with scale
- * and offset in floats[0] and [1]. */
+/* Field index of the description block at place block. The value is in ints[0]; of L3_FIELD_PAIR, which is two f32, scale and offset are
+ * in floats[0] and [1]. */
 uint32_t l3_field(const uint8_t *file, size_t file_len, size_t block, size_t index, uint32_t kind,
                   int64_t *ints, size_t ints_len, double *floats, size_t floats_len);
 
-/* The fields of the description block: ints[1] to [4] and floats[0] to [3] as in l3_sweep. */
+/* The fields of the description block: ints[L3_PRODUCT_CODE] to [L3_SECONDS] and floats[L3_LATITUDE] to [L3_ELEVATION]. */
 uint32_t l3_pdb(const uint8_t *file, size_t file_len, size_t block, int64_t *ints, size_t ints_len,
                 double *floats, size_t floats_len);
 
-/* The scale fields of the halfword and of the float scheme. ints[11]: level count; floats[6], [7]: minimum, step. */
+/* The scale fields of the halfword and of the float scheme: ints[L3_LEVELS], floats[L3_MINIMUM] and [L3_STEP]. */
 uint32_t l3_linear(const uint8_t *file, size_t file_len, size_t block, int64_t *ints, size_t ints_len,
                    double *floats, size_t floats_len);
 uint32_t l3_float(const uint8_t *file, size_t file_len, size_t block, int64_t *ints, size_t ints_len,
                   double *floats, size_t floats_len);
 
-/* Those of the precipitation family. ints[12]: floor; ints[13]: ceiling, or -1; floats[6], [7]: minimum, step. */
+/* Those of the precipitation family: ints[L3_FLOOR] and [L3_CEILING], floats[L3_MINIMUM] and [L3_STEP]. Any factor is taken. */
 uint32_t l3_precip(const uint8_t *file, size_t file_len, size_t block, float factor, int64_t *ints, size_t ints_len,
                    double *floats, size_t floats_len);
 
@@ -85,7 +140,7 @@ uint32_t l3_precip(const uint8_t *file, size_t file_len, size_t block, float fac
 uint32_t l3_threshold(const uint8_t *file, size_t file_len, size_t block, uint8_t *thresholds, size_t thresholds_len,
                       int64_t *ints, size_t ints_len, double *floats, size_t floats_len);
 
-/* The sixteen legacy levels of 32 threshold bytes. thresholds_len must be 32, levels_len 16. Returns 0 or 101. */
+/* The sixteen legacy levels of 32 threshold bytes. thresholds_len must be 32, levels_len 16; any post_scale is taken. Returns 0 or 101. */
 uint32_t l3_legacy16(const uint8_t *thresholds, size_t thresholds_len, float post_scale, float *levels, size_t levels_len);
 
 /* The physical values of codes, by the scale fields of the description block at place block. scheme and parameter as in l3_sweep.
@@ -103,12 +158,13 @@ uint32_t l3_trailing(const uint8_t *bytes, size_t bytes_len, int64_t *ints, size
 /* 1 if the message code is known, else 0. */
 uint32_t l3_known(int16_t code);
 
-/* The known message codes, ascending. table_len must be 26. Returns 0 or 101. */
+/* The known message codes, ascending, in the first L3_KNOWN_CODES places of table; later places are left as they are. table_len must be
+ * L3_KNOWN_CODES or more. Returns 0 or 101. */
 uint32_t l3_codes(uint16_t *table, size_t table_len);
 
-/* One XDR item at a position of the payload. op: 0 int, 1 uint, with the value in ints[0]; 2 float, in floats[0]; 3 string, 4 array of
- * integers, with the place of the first byte in ints[0] and the number of bytes or integers in ints[1]; 5 list of parameters, two strings
- * each. ints[15]: the position after the read; after a refusal, where it stopped. */
+/* One XDR item at a position of the payload. L3_XDR_INT, L3_XDR_UINT: the value in ints[0]; L3_XDR_FLOAT: in floats[0]; L3_XDR_STRING,
+ * L3_XDR_ARRAY (of integers): the place of the first byte in ints[0] and the number of bytes or integers in ints[1]; L3_XDR_PARAMETERS, a
+ * list of two strings each: no value. ints[L3_POSITION]: the position after the read; after a refusal, where it stopped. */
 uint32_t l3_xdr(uint32_t op, const uint8_t *payload, size_t payload_len, size_t at, int64_t *ints, size_t ints_len,
                 double *floats, size_t floats_len);
 

@@ -329,7 +329,7 @@ impl Port {
             let kept = self.physical.touched(0).is_none();
             asked.push((format!("l3_legacy16 with {bytes} bytes and {levels} levels"), number == BAD_ARGUMENT && kept));
         }
-        for len in [0, 25, 27] {
+        for len in [0, 1, 25] {
             let out = self.codes.lend(len, pattern16);
             let number = unsafe { (self.entries.codes)(out, len) };
             asked.push((format!("l3_codes with {len} places"), number == BAD_ARGUMENT && self.codes.touched(0).is_none()));
@@ -493,8 +493,8 @@ impl Port {
     }
 
     fn codes(&mut self) -> Answer {
-        let out = self.codes.lend(26, pattern16);
-        let refused = unsafe { (self.entries.codes)(out, 26) };
+        let out = self.codes.lend(30, pattern16);
+        let refused = unsafe { (self.entries.codes)(out, 30) };
         if refused != 0 {
             return Answer::Refused(self.refusal(refused));
         }

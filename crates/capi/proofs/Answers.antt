@@ -2,12 +2,12 @@
 use mathlib.Core.Path.{_≡_, refl, sym, ap, subst, _∙_}
 use mathlib.Core.Bool.{Bool, true, false, cond}
 use mathlib.Core.List.{List, [], _∷_, append-nil}
-use Prim.Native.Nat.{ℕ, zero, suc, _≤_}
+use Prim.Native.Nat.{ℕ, zero, suc, _≤_, _<_}
 use native.Mathlib.Nat.{le-of-suc-le-suc, not-suc-le-zero}
 use lib.ListN.{length, take, drop}
 use lib.Seq.{drop-length}
 use lib.Ieee.{Float}
-use borrow.Author.Tests.{eq-eqb, ne-eqb}
+use borrow.Author.Tests.{eq-eqb, ne-eqb, lt-ltb, le-ltb}
 use Rattle.bytes.specs.Result.{Result, accepted, refused, then, lent}
 use Rattle.bytes.specs.Reading.{Ended}
 use Rattle.bytes.specs.Products.{codes}
@@ -93,13 +93,13 @@ lent-thresholds {bytes = bytes} file old q e d =
     by-cases (accepted k) = refl
     by-cases (refused x) = refl
 
-pub codes-bad : (n : ℕ) → (n ≡ 26 → ⊥) → codesSaid n ≡ failed 101
+pub codes-bad : (n : ℕ) → n < 26 → codesSaid n ≡ failed 101
 unfolding codesSaid
-codes-bad n h = simp (ne-eqb n 26 h)
+codes-bad n h = simp (lt-ltb n 26 h)
 
-pub codes-good : (n : ℕ) → n ≡ 26 → codesSaid n ≡ said codes
+pub codes-good : (n : ℕ) → 26 ≤ n → codesSaid n ≡ said codes
 unfolding codesSaid
-codes-good n h = simp (eq-eqb n 26 h)
+codes-good n h = simp (le-ltb n 26 h)
 
 pub levels-bytes : (bytes : List ℕ) (post : Float) (n : ℕ) → (length bytes ≡ 32 → ⊥) → levelsSaid bytes post n ≡ failed 101
 unfolding levelsSaid

@@ -4,7 +4,7 @@ use mathlib.Core.List.{List, [], _∷_}
 use mathlib.Core.Bool.{cond, _&&_}
 use mathlib.Core.Path.{_≡_}
 use lib.ListN.{length}
-use lib.Dec.{eqb}
+use lib.Dec.{eqb, ltb}
 use lib.Ieee.{Float}
 use Rattle.bytes.specs.Reading.{walk}
 use Rattle.bytes.specs.Result.{Result}
@@ -48,9 +48,9 @@ thresholdSaid file block n = cond (eqb n 32) (said (thresholdPlace file block)) 
 unfoldable pub levelsSaid : List ℕ → Float → ℕ → Said (List Float)
 levelsSaid bytes post n = cond (eqb (length bytes) 32 && eqb n 16) (said (levelsOf bytes 0 post)) (failed 101)
 
--- the known codes, for a buffer of n places
+-- the known codes, for a buffer of n places, which has to hold all 26
 unfoldable pub codesSaid : ℕ → Said (List ℕ)
-codesSaid n = cond (eqb n 26) (said codes) (failed 101)
+codesSaid n = cond (ltb n 26) (failed 101) (said codes)
 
 -- a scheme by its number, with the factor or the post-scale: halfword, float, precipitation, legacy, class
 abbrev pub schemeSaid : ℕ → Float → Said Scheme

@@ -22,7 +22,7 @@ pub extern "C" fn l3_codes(table: &mut [u16]) -> u32
     ensures { λ r. ⌜ r ≡ plainNumber (codesSaid (length (now (table .entry)))) ⌝ }
     ensures { λ _. ⌜ now (table .exit) ≡ plainAfter (codesSaid (length (now (table .entry)))) (now (table .entry)) ⌝ }
 {
-    if table.len() != 26 {
+    if table.len() < 26 {
         return 101;
     }
     let codes = bytes::products::known_message_codes();

@@ -4,16 +4,22 @@ use crate::lent::int;
 use crate::print::named;
 use crate::print::say;
 use crate::words::word;
-ghost use Prim.Native.Nat.{_≤_};
+ghost use Prim.Native.Nat.{_≤_, _*_};
+ghost use mathlib.Core.Path.{_≡_};
+ghost use lib.ListN.{getD};
+ghost use Rattle.replay.specs.Report.{cellsOf};
 
 fn product(a: u64, b: u64) -> u64
     requires { ⌜ (a ≤ 4096) × (b ≤ 4096) ⌝ }
+    ensures { λ r. ⌜ r ≡ a * b ⌝ }
 {
     a * b
 }
 
 // The cells of a picture, for which the buffers have room.
-pub fn cells(ints: &[u64]) -> usize {
+pub fn cells(ints: &[u64]) -> usize
+    ensures { λ r. ⌜ r ≡ cellsOf (now (ints .entry)) ⌝ }
+{
     let radials = int(ints, 7);
     let bins = int(ints, 8);
     if 4096 < radials {
@@ -25,7 +31,9 @@ pub fn cells(ints: &[u64]) -> usize {
     product(radials, bins) as usize
 }
 
-pub fn radials(ints: &[u64]) -> usize {
+pub fn radials(ints: &[u64]) -> usize
+    ensures { λ r. ⌜ r ≡ getD (now (ints .entry)) 7 0 ⌝ }
+{
     int(ints, 7) as usize
 }
 

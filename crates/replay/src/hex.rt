@@ -1,12 +1,15 @@
 // Bytes and floats of hexadecimal words. `-` is no bytes.
 ghost use Prim.Native.Nat.{_≤_};
+ghost use mathlib.Core.List.{_++_};
 ghost use mathlib.Core.Path.{_≡_};
-ghost use lib.ListN.{length};
+ghost use lib.ListN.{length, drop, replicate};
+ghost use Rattle.bytes.specs.Text.{all};
 ghost use Rattle.io.specs.Counts.{Counts};
-ghost use Rattle.replay.specs.Hex.{digitValue, byteOf};
+ghost use Rattle.replay.specs.Hex.{digitValue, byteOf, bytesIn, isHex, isBytes, isFloat, bitsOf, floatOf};
 
 // Room for the bytes of any word of a line.
 pub fn room() -> [u8; 32768]
+    ensures { λ r. ⌜ r ≡ replicate 32768 0 ⌝ }
     ensures { λ r. ⌜ 32768 ≡ length r ⌝ }
 {
     [0u8; 32768]
@@ -37,7 +40,9 @@ fn digit(b: u8) -> u32
     16
 }
 
-fn is_digits(text: &[u8]) -> bool {
+fn is_digits(text: &[u8]) -> bool
+    ensures { λ r. ⌜ r ≡ all isHex (now (text .entry)) ⌝ }
+{
     let mut i = 0usize;
     while i < text.len() {
         if digit(text[i]) == 16 {
@@ -49,7 +54,9 @@ fn is_digits(text: &[u8]) -> bool {
 }
 
 // Whether a word spells bytes for which there is room.
-pub fn is_bytes(word: &[u8]) -> bool {
+pub fn is_bytes(word: &[u8]) -> bool
+    ensures { λ r. ⌜ r ≡ isBytes (now (word .entry)) ⌝ }
+{
     if bytes::text::same(word, b"-") {
         return true;
     }
@@ -73,6 +80,8 @@ fn byte_of(high: u8, low: u8) -> u8
 
 // The bytes that a word spells, at the front of a buffer; how many there are.
 pub fn read(word: &[u8], buf: &mut [u8]) -> usize
+    ensures { λ r. ⌜ r ≡ length (bytesIn (length (now (buf .entry))) (now (word .entry))) ⌝ }
+    ensures { λ r. ⌜ now (buf .exit) ≡ bytesIn (length (now (buf .entry))) (now (word .entry)) ++ drop r (now (buf .entry)) ⌝ }
     ensures { λ r. ⌜ Counts r (now (buf .exit)) ⌝ }
 {
     let mut i = 0usize;
@@ -87,11 +96,18 @@ pub fn read(word: &[u8], buf: &mut [u8]) -> usize
 }
 
 // Whether a word spells the bits of an f32.
-pub fn is_float(word: &[u8]) -> bool {
-    word.len() == 8 && is_digits(word)
+pub fn is_float(word: &[u8]) -> bool
+    ensures { λ r. ⌜ r ≡ isFloat (now (word .entry)) ⌝ }
+{
+    if word.len() != 8 {
+        return false;
+    }
+    is_digits(word)
 }
 
-fn bits(word: &[u8]) -> u32 {
+fn bits(word: &[u8]) -> u32
+    ensures { λ r. ⌜ r ≡ bitsOf (now (word .entry)) ⌝ }
+{
     let mut n = 0u32;
     let mut i = 0usize;
     while i < word.len() {
@@ -101,6 +117,8 @@ fn bits(word: &[u8]) -> u32 {
     n
 }
 
-pub fn float(word: &[u8]) -> f32 {
+pub fn float(word: &[u8]) -> f32
+    ensures { λ r. ⌜ r ≡ floatOf (now (word .entry)) ⌝ }
+{
     bytes::float::f32_from_bits(bits(word))
 }

@@ -1,5 +1,6 @@
-// The kinds of cases: their names, and the words that each one's line must have.
-use crate::words::word;
+// The kinds of cases, and the library's numbers for what a case's words name.
+ghost use mathlib.Core.Path.{_≡_};
+ghost use Rattle.replay.specs.Kinds.{fieldKind, schemeNumber, parameterOf, itemNumber};
 
 pub enum Kind {
     Sweep,
@@ -21,75 +22,10 @@ pub enum Kind {
     Unknown,
 }
 
-fn is(line: &[u8], name: &[u8]) -> bool {
-    bytes::text::same(word(line, 0), name)
-}
-
-// A kind whose entry reads a file's description block, or none.
-fn block_kind(line: &[u8]) -> Kind {
-    if is(line, b"field") {
-        return Kind::Field;
-    }
-    if is(line, b"pdb") {
-        return Kind::Block;
-    }
-    if is(line, b"lin") {
-        return Kind::Linear;
-    }
-    if is(line, b"flt") {
-        return Kind::Float;
-    }
-    if is(line, b"thr") {
-        return Kind::Threshold;
-    }
-    if is(line, b"prc") {
-        return Kind::Precip;
-    }
-    Kind::Unknown
-}
-
-// A kind whose entry reads no file.
-fn plain_kind(line: &[u8]) -> Kind {
-    if is(line, b"time") {
-        return Kind::Time;
-    }
-    if is(line, b"leg") {
-        return Kind::Legacy;
-    }
-    if is(line, b"trail") {
-        return Kind::Trailing;
-    }
-    if is(line, b"known") {
-        return Kind::Known;
-    }
-    if is(line, b"codes") {
-        return Kind::Codes;
-    }
-    if is(line, b"xdr") {
-        return Kind::Xdr;
-    }
-    block_kind(line)
-}
-
-// The kind that a line's first word names.
-pub fn kind_of(line: &[u8]) -> Kind {
-    if is(line, b"sweep") {
-        return Kind::Sweep;
-    }
-    if is(line, b"sym") {
-        return Kind::Symbology;
-    }
-    if is(line, b"token") {
-        return Kind::Token;
-    }
-    if is(line, b"mhb") {
-        return Kind::Header;
-    }
-    plain_kind(line)
-}
-
 // The number of a field's kind in the library; 4 of any other word.
-pub fn field_kind(word: &[u8]) -> u32 {
+pub fn field_kind(word: &[u8]) -> u32
+    ensures { λ r. ⌜ r ≡ fieldKind (now (word .entry)) ⌝ }
+{
     if bytes::text::same(word, b"i16") {
         return 0;
     }
@@ -106,7 +42,9 @@ pub fn field_kind(word: &[u8]) -> u32 {
 }
 
 // The number of a scheme in the library; 5 of any other word. P and L have a parameter behind a colon.
-pub fn scheme(word: &[u8]) -> u32 {
+pub fn scheme(word: &[u8]) -> u32
+    ensures { λ r. ⌜ r ≡ schemeNumber (now (word .entry)) ⌝ }
+{
     if bytes::text::same(word, b"H") {
         return 0;
     }
@@ -132,91 +70,36 @@ pub fn scheme(word: &[u8]) -> u32 {
 }
 
 // The word of a scheme's parameter; an empty one where it has none.
-pub fn parameter(word: &[u8]) -> &[u8] {
+pub fn parameter(word: &[u8]) -> &[u8]
+    ensures { λ r. ⌜ now r ≡ parameterOf (now (word .entry)) ⌝ }
+{
     if word.len() == 10 {
         return &word[2..];
     }
     &word[..0]
 }
 
-fn is_scheme(word: &[u8]) -> bool {
-    let n = scheme(word);
-    if n == 2 || n == 3 {
-        return crate::hex::is_float(parameter(word));
-    }
-    n < 5
-}
-
 // The number of an XDR item in the library; 6 of any other letter.
-pub fn item(letter: u8) -> u32 {
-    match letter {
-        b'i' => 0,
-        b'u' => 1,
-        b'f' => 2,
-        b's' => 3,
-        b'a' => 4,
-        b'l' => 5,
-        _ => 6,
+pub fn item(letter: u8) -> u32
+    ensures { λ r. ⌜ r ≡ itemNumber letter ⌝ }
+{
+    if letter == b'i' {
+        return 0;
     }
-}
-
-fn is_items(word: &[u8]) -> bool {
-    if bytes::text::same(word, b"-") {
-        return true;
+    if letter == b'u' {
+        return 1;
     }
-    let mut i = 0usize;
-    while i < word.len() {
-        if item(word[i]) == 6 {
-            return false;
-        }
-        i += 1;
+    if letter == b'f' {
+        return 2;
     }
-    0 < i
-}
-
-// Whether a word is what a letter asks for: w any, n a size, h a u16, z an i32, j an i16, c a clock, b bytes, t 32 bytes, x the bits of
-// a float, s a scheme, k the kind of a field, o XDR items.
-fn fits(word: &[u8], letter: u8) -> bool {
-    match letter {
-        b'n' => crate::words::is_size(word),
-        b'h' => crate::words::is_unsigned(word, 65535),
-        b'z' => crate::words::is_signed(word, 2147483647),
-        b'j' => crate::words::is_signed(word, 32767),
-        b'c' => crate::words::is_signed(word, u64::MAX),
-        b'b' => crate::hex::is_bytes(word),
-        b't' => word.len() == 64 && crate::hex::is_bytes(word),
-        b'x' => crate::hex::is_float(word),
-        b's' => is_scheme(word),
-        b'k' => field_kind(word) < 4,
-        b'o' => is_items(word),
-        _ => 0 < word.len(),
+    if letter == b's' {
+        return 3;
     }
-}
-
-fn has(line: &[u8], letters: &[u8]) -> bool {
-    let mut k = 0usize;
-    while k < letters.len() {
-        if !fits(word(line, k), letters[k]) {
-            return false;
-        }
-        k += 1;
+    if letter == b'a' {
+        return 4;
     }
-    word(line, k).len() == 0
-}
-
-// Whether a line has the words of its kind.
-pub fn is_formed(line: &[u8], kind: Kind) -> bool {
-    match kind {
-        Kind::Sweep => has(line, b"wwcsnnnbb"),
-        Kind::Symbology | Kind::Token | Kind::Header | Kind::Trailing => has(line, b"wwb"),
-        Kind::Time => has(line, b"wwchz"),
-        Kind::Field => has(line, b"wwbnnk"),
-        Kind::Block | Kind::Linear | Kind::Float | Kind::Threshold => has(line, b"wwbn"),
-        Kind::Precip => has(line, b"wwbnx"),
-        Kind::Legacy => has(line, b"wwtx"),
-        Kind::Known => has(line, b"wwj"),
-        Kind::Codes => has(line, b"ww"),
-        Kind::Xdr => has(line, b"wwob"),
-        Kind::Unknown => false,
+    if letter == b'l' {
+        return 5;
     }
+    6
 }

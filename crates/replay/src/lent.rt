@@ -1,39 +1,52 @@
 // The buffers that are lent to the library: filled with a pattern, read, and looked at afterwards.
 ghost use mathlib.Core.Path.{_≡_};
-ghost use lib.ListN.{length};
+ghost use lib.IntN.{negsuc};
+ghost use lib.ListN.{length, getD, replicate};
+ghost use Rattle.bytes.specs.Float.{f64, whole32, whole64};
 
 pub fn azimuths() -> [f64; 4096]
+    ensures { λ r. ⌜ r ≡ replicate 4096 (whole64 (negsuc 7776)) ⌝ }
     ensures { λ r. ⌜ 4096 ≡ length r ⌝ }
 {
     [-7777.0f64; 4096]
 }
 
 pub fn codes() -> [u16; 4096]
+    ensures { λ r. ⌜ r ≡ replicate 4096 42435 ⌝ }
     ensures { λ r. ⌜ 4096 ≡ length r ⌝ }
 {
     [0xa5c3u16; 4096]
 }
 
 pub fn physical() -> [f32; 4096]
+    ensures { λ r. ⌜ r ≡ replicate 4096 (whole32 (negsuc 7776)) ⌝ }
     ensures { λ r. ⌜ 4096 ≡ length r ⌝ }
 {
     [-7777.0f32; 4096]
 }
 
 // The report, with places behind it that must be kept.
-pub fn ints() -> [u64; 24] {
+pub fn ints() -> [u64; 24]
+    ensures { λ r. ⌜ r ≡ replicate 24 11936128518282651045 ⌝ }
+{
     [0xa5a5_a5a5_a5a5_a5a5u64; 24]
 }
 
-pub fn floats() -> [f64; 16] {
+pub fn floats() -> [f64; 16]
+    ensures { λ r. ⌜ r ≡ replicate 16 (whole64 (negsuc 7776)) ⌝ }
+{
     [-7777.0f64; 16]
 }
 
-pub fn int(ints: &[u64], i: usize) -> u64 {
+pub fn int(ints: &[u64], i: usize) -> u64
+    ensures { λ r. ⌜ r ≡ getD (now (ints .entry)) i 0 ⌝ }
+{
     if i < ints.len() { ints[i] } else { 0 }
 }
 
-pub fn float(floats: &[f64], i: usize) -> f64 {
+pub fn float(floats: &[f64], i: usize) -> f64
+    ensures { λ r. ⌜ r ≡ getD (now (floats .entry)) i (f64 0 1) ⌝ }
+{
     if i < floats.len() { floats[i] } else { 0.0f64 }
 }
 

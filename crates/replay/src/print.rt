@@ -1,5 +1,6 @@
 // Text, numbers and floats on standard output.
 ghost use Prim.Native.Nat.{_≤_};
+ghost use mathlib.Core.Path.{_≡_};
 
 pub fn say(text: &[u8]) {
     io::write_all(1, text);
@@ -33,7 +34,9 @@ fn wide8(x: u8) -> u64 {
     x as u64
 }
 
-pub fn wide16(x: u16) -> u64 {
+pub fn wide16(x: u16) -> u64
+    ensures { λ r. ⌜ r ≡ x ⌝ }
+{
     x as u64
 }
 

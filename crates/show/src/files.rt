@@ -1,4 +1,7 @@
 // A file named by an argument, read into an array.
+ghost use mathlib.Core.Path.{_≡_};
+ghost use Prim.Native.Nat.{min};
+ghost use lib.ListN.{length};
 ghost use Rattle.io.specs.Counts.{Counts};
 
 pub enum Loaded {
@@ -12,6 +15,7 @@ pub enum Loaded {
 
 // n, or the array's length where that is less.
 pub fn within(n: usize, buf: &[u8]) -> usize
+    ensures { λ r. ⌜ r ≡ min n (length (now (buf .entry))) ⌝ }
     ensures { λ r. ⌜ Counts r (now (buf .entry)) ⌝ }
 {
     if n <= buf.len() { n } else { buf.len() }

@@ -1,8 +1,10 @@
-// show FILE BODY SCHEME [CLOCK]: reads a product file and its unpacked symbology body, and prints what the sweep reading answers.
+// show FILE [BODY SCHEME [CLOCK]]: reads a product file and its unpacked symbology body, and prints what the sweep reading answers. With
+// FILE alone it prints the head, which needs no scheme.
 //
 // An accepted sweep goes to standard output as text, a refusal as one line that begins `refused:`. What keeps the program from
 // asking, as a wrong argument or a file that can't be read, goes to standard error.
 use scale::physical::Scheme;
+use sweep::plan::HeadRead;
 
 mod answer;
 mod buffers;
@@ -18,8 +20,9 @@ use words::ClockWord;
 use words::SchemeWord;
 
 fn print_usage() {
-    text::warn(b"usage: show FILE BODY SCHEME [CLOCK]\n");
+    text::warn(b"usage: show FILE [BODY SCHEME [CLOCK]]\n");
     text::warn(b"  FILE    the product file; its first 4096 bytes are read\n");
+    text::warn(b"          without BODY and SCHEME its head alone is printed\n");
     text::warn(b"  BODY    the unpacked symbology body, at most 1400000 bytes\n");
     text::warn(b"  SCHEME  halfword, float, precipitation:FACTOR, legacy:POSTSCALE or class\n");
     text::warn(b"          FACTOR and POSTSCALE are numbers such as 1, 25.4 or 0.01: at most\n");
@@ -49,11 +52,50 @@ fn run(scheme: Scheme, clock: u64) {
     };
     let f = files::within(file_len, &file);
     let b = files::within(body_len, &body);
+    if words::starts_with(&body[..b], b"BZh") {
+        text::warn(
+            b"show: BODY begins with BZh: it is still packed; unpack the bzip2 stream first,",
+        );
+        text::warn(b" as bunzip2 -c BODY does\n");
+        return;
+    }
     answer::show(&file[..f], clock, scheme, &body[..b]);
+}
+
+// The head of a file; class has no scale fields, so that no scheme has a say.
+fn show_head(file: &[u8], clock: u64) {
+    match sweep::plan::read_head(Scheme::Class, file, clock) {
+        HeadRead::Refused(e) => refusals::print(e),
+        HeadRead::Value(h) => picture::print_head(h, file),
+    }
+}
+
+// The file's first bytes, and its head by the system's clock.
+fn run_head() {
+    let clock = match words::clock_argument(2, 2) {
+        ClockWord::Value(t) => t,
+        ClockWord::Bad => return,
+        ClockWord::Missing => {
+            text::warn(b"show: the system has no time; give BODY, SCHEME and CLOCK\n");
+            return;
+        }
+    };
+    let mut file = buffers::file_bytes();
+    let file_len = match files::load(1, &mut file) {
+        Loaded::Failed => return,
+        Loaded::Whole(n) => n,
+        Loaded::Part(n) => n,
+    };
+    let f = files::within(file_len, &file);
+    show_head(&file[..f], clock);
 }
 
 fn main() {
     let words = os::arg_count();
+    if words == 2 {
+        run_head();
+        return;
+    }
     if words < 4 || 5 < words {
         print_usage();
         return;

@@ -2,6 +2,7 @@
 use head::pdb::PdbFields;
 use scale::physical::Declared;
 use scale::scaling::DeclaredLinearScale;
+use sweep::plan::Head;
 use sweep::sweep::Sweep;
 use symbology::figures::Figures;
 use symbology::figures::Geometry;
@@ -204,6 +205,13 @@ fn print_extent(radials: usize, bins: usize) {
     crate::text::say(b" of ");
     crate::text::size(bins);
     crate::text::say(b" bins\n");
+}
+
+// A head alone.
+pub fn print_head(h: Head, file: &[u8]) {
+    print_token(file, h.token);
+    let fields = h.fields;
+    print_fields(fields, h.time);
 }
 
 pub fn print(s: Sweep, file: &[u8], azimuths: &[f64], codes: &[u16], physical: &[f32]) {

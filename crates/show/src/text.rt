@@ -1,4 +1,6 @@
 // Text and whole numbers on standard output, and lines on standard error.
+ghost use mathlib.Core.Path.{_≡_};
+ghost use Prim.Native.Nat.{_-_};
 
 pub fn say(s: &[u8]) {
     io::write_all(1, s);
@@ -9,7 +11,9 @@ pub fn warn(s: &[u8]) {
 }
 
 // What is left of a width.
-pub fn left(width: usize, used: usize) -> usize {
+pub fn left(width: usize, used: usize) -> usize
+    ensures { λ r. ⌜ r ≡ width - used ⌝ }
+{
     if used < width { width - used } else { 0 }
 }
 
@@ -48,7 +52,9 @@ pub fn right_size(n: usize, width: usize) {
     right_whole(n as u64, width);
 }
 
-pub fn wide_signed(x: i16) -> i32 {
+pub fn wide_signed(x: i16) -> i32
+    ensures { λ r. ⌜ r ≡ x ⌝ }
+{
     x as i32
 }
 

@@ -154,7 +154,7 @@ fn legacy(text: &[u8]) -> SchemeWord
 }
 
 // Whether a word begins with a name.
-fn starts_with(word: &[u8], name: &[u8]) -> bool
+pub fn starts_with(word: &[u8], name: &[u8]) -> bool
     ensures { λ r. ⌜ r ≡ begins (now (name .entry)) (now (word .entry)) ⌝ }
 {
     let n = name.len();

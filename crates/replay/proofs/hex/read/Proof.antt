@@ -1,26 +1,28 @@
+use denote.Ref.{now}
 use native.Mathlib.Omega.{arith}
-use Rattle.replay.proofs.Laws.{counts}
-use borrow.Author.Needs.{needs}
-use Prim.Native.Nat.{_≤_, _-_}
+use Rattle.capi.proofs.Copied.{Copied, copied-first}
+use Rattle.replay.proofs.Laws.{bytes-in-long, read-turn, read-end}
+use Rattle.replay.specs.Hex.{bytesIn}
+use Prim.Native.Nat.{_-_}
 use lib.ListN.{length}
-use mathlib.Core.Path.{_≡_}
+use borrow.Author.Needs.{needs}
 use Rattle.replay.proofs.hex.read.Statement.{statement}
 use Rattle.replay.proofs.hex.read.Tie as tie
 
 abbrev Inv-loop : tie.InvT-loop
-Inv-loop word buf₀ i₀ buf i = (i ≤ length buf₀) × (length buf ≡ length buf₀)
+Inv-loop word buf₀ i₀ buf i = Copied (bytesIn (length buf₀) word) buf₀ buf i
 
 abbrev μ-loop : tie.MeasureT-loop
 μ-loop word buf₀ i₀ buf i = length buf₀ - i
 
 loop-holds : tie.Need-loop-holds Inv-loop μ-loop
-loop-holds c = search needs
+loop-holds c = copied-first _ _ (omega (arith, bytes-in-long (length (now (c .before .before .args .buf))) (now (c .before .before .args .word))))
 
 same-length : tie.Need-same-length Inv-loop μ-loop
-same-length c = search needs
+same-length c = c .before .before .loop .inv .laid .long
 
 returns : tie.Need-returns Inv-loop μ-loop
-returns c = counts _ _ (omega arith)
+returns c = read-end _ _ _ (c .before .before .loop .inv) (omega arith)
 
 mul-byte-of : tie.Need-mul-byte-of Inv-loop μ-loop
 mul-byte-of c = search needs
@@ -50,13 +52,13 @@ loop-less : tie.Need-loop-less Inv-loop μ-loop
 loop-less c = search needs
 
 loop-again : tie.Need-loop-again Inv-loop μ-loop
-loop-again c = search needs
+loop-again c = read-turn _ _ _ (c .before .before .before .before .before .loop .inv) (omega arith) (omega (arith, c .before .before .before .before .before .loop .inv .laid .long)) (c .byte-of .ensures)
 
 same-length-2 : tie.Need-same-length-2 Inv-loop μ-loop
-same-length-2 c = search needs
+same-length-2 c = c .before .loop .inv .laid .long
 
 returns-2 : tie.Need-returns-2 Inv-loop μ-loop
-returns-2 c = counts _ _ (omega arith)
+returns-2 c = read-end _ _ _ (c .before .loop .inv) (omega (arith, c .before .loop .inv .laid .long))
 
 pub read-spec : {M : Type 1} → statement M
 read-spec =

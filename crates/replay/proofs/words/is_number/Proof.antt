@@ -1,50 +1,22 @@
-use borrow.Author.Needs.{needs}
-use Prim.Native.Nat.{_≤_, _-_}
+use Rattle.replay.specs.Words.{isNumber}
+use borrow.Author.Tests.{le-ltb, lt-ltb}
+use native.Mathlib.Omega.{arith}
+use denote.Ref.{now}
 use lib.ListN.{length}
+use borrow.Author.Needs.{needs}
 use Rattle.replay.proofs.words.is_number.Statement.{statement}
 use Rattle.replay.proofs.words.is_number.Tie as tie
 
-abbrev Inv-loop : tie.InvT-loop
-Inv-loop text i₀ i = i ≤ length text
+returns : tie.Need-returns
+unfolding isNumber
+returns c = simp (le-ltb 0 (length (now (c .before .before .args .text))) (omega arith))
 
-abbrev μ-loop : tie.MeasureT-loop
-μ-loop text i₀ i = length text - i
+all-digits-requires : tie.Need-all-digits-requires
+all-digits-requires c κs = search needs
 
-loop-holds : tie.Need-loop-holds Inv-loop μ-loop
-loop-holds c = search needs
-
-shared-slice-read-is-digit : tie.Need-shared-slice-read-is-digit Inv-loop μ-loop
-shared-slice-read-is-digit c = search needs
-
-is-digit-requires : tie.Need-is-digit-requires Inv-loop μ-loop
-is-digit-requires c κs = search needs
-
-returns : tie.Need-returns Inv-loop μ-loop
-returns c = search needs
-
-add-i : tie.Need-add-i Inv-loop μ-loop
-add-i c = search needs
-
-loop-less : tie.Need-loop-less Inv-loop μ-loop
-loop-less c = search needs
-
-loop-again : tie.Need-loop-again Inv-loop μ-loop
-loop-again c = search needs
-
-returns-2 : tie.Need-returns-2 Inv-loop μ-loop
-returns-2 c = search needs
+returns-2 : tie.Need-returns-2
+unfolding isNumber
+returns-2 c = rw (lt-ltb 0 (length (now (c .before .before .before .args .text))) (omega arith)) (c .all-digits .ensures)
 
 pub is-number-spec : {M : Type 1} → statement M
-is-number-spec =
-    tie.close
-    (tie.spec
-    Inv-loop
-    μ-loop
-    loop-holds
-    shared-slice-read-is-digit
-    is-digit-requires
-    returns
-    add-i
-    loop-less
-    loop-again
-    returns-2)
+is-number-spec = tie.close (tie.spec returns all-digits-requires returns-2)

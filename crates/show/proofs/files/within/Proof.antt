@@ -5,10 +5,10 @@ use Rattle.show.proofs.files.within.Statement.{statement}
 use Rattle.show.proofs.files.within.Tie as tie
 
 returns : tie.Need-returns
-returns c = (c .if1 .taken, sym (length-take-le _ _ (c .if1 .taken)))
+returns c = (omega arith, (c .if1 .taken, sym (length-take-le _ _ (c .if1 .taken))))
 
 returns-2 : tie.Need-returns-2
-returns-2 c = (omega arith, sym (length-take-le _ _ (omega arith)))
+returns-2 c = (omega arith, (omega arith, sym (length-take-le _ _ (omega arith))))
 
 pub within-spec : {M : Type 1} → statement M
 within-spec = tie.close (tie.spec returns returns-2)

@@ -1,8 +1,8 @@
 use borrow.Author.Needs.{needs}
 use Prim.Native.Nat.{_≤_, _-_}
 use lib.ListN.{length}
-use Rattle.replay.proofs.kinds.is_items.Statement.{statement}
-use Rattle.replay.proofs.kinds.is_items.Tie as tie
+use Rattle.replay.proofs.answer.is_items.Statement.{statement}
+use Rattle.replay.proofs.answer.is_items.Tie as tie
 
 abbrev Inv-loop : tie.InvT-loop
 Inv-loop word i₀ i = i ≤ length word

@@ -1,8 +1,8 @@
 use borrow.Author.Needs.{needs}
 use Prim.Native.Nat.{_≤_, _-_}
 use lib.ListN.{length}
-use Rattle.replay.proofs.kinds.has.Statement.{statement}
-use Rattle.replay.proofs.kinds.has.Tie as tie
+use Rattle.replay.proofs.answer.has.Statement.{statement}
+use Rattle.replay.proofs.answer.has.Tie as tie
 
 abbrev Inv-loop : tie.InvT-loop
 Inv-loop line letters k₀ k = k ≤ length letters
