@@ -1,6 +1,6 @@
 -- What a plan and the terms say of a body's picture, a law for each answer of the code. Assumes nothing.
 use Prim.Native.Nat.{ℕ, _*_, _-_, _≤_}
-use mathlib.Core.List.{List}
+use mathlib.Core.List.{List, []}
 use mathlib.Core.Bool.{Bool, true, false, not}
 use mathlib.Core.Path.{_≡_, refl, sym, ap, subst, _∙_}
 use lib.ListN.{length, take, drop}
@@ -9,8 +9,8 @@ use lib.IntN.{ℤ, pos}
 use lib.Signed.{ltZ}
 use lib.Ieee.{Float}
 use borrow.Author.Tests.{ltb-false}
-use Rattle.bytes.specs.Refusal.{Refusal, refusalOf}
-use Rattle.bytes.specs.Result.{Result, accepted, refused, then, lent}
+use Rattle.bytes.specs.Refusal.{Refusal, kind, refusalOf}
+use Rattle.bytes.specs.Result.{Result, accepted, refused, refuse, then, lent}
 use Rattle.bytes.specs.Reading.{run, Given}
 use Rattle.bytes.proofs.Readings.{part-slice}
 use Rattle.xdr.specs.Xdr.{atLeast0}
@@ -80,11 +80,16 @@ admit-room t na nc f h =
     passed (ltb nc (f .«n_radials» * f .«n_bins»)) _ _ tt e₃ λ b _.
     (ltb-false _ _ a, ltb-false _ _ b)
 
--- the other way: where the packet is asked for and the step passes, the room decides; else the step
-pub admit-step : (t : Terms) (na nc : ℕ) (f : Figures) {asks : Bool} {c : Result (Unit {0})} → asks ≡ asked (t .packets) (f .packet) → not asks ≡ false
-    → c ≡ stepOf (t .packets) → then c (λ _. roomIn t na nc (f .«n_radials») (f .«n_radials» * f .«n_bins»)) ≡ admit t na nc f
+-- the other way, by the answers of the three tests
+pub admit-is : (t : Terms) (na nc : ℕ) (f : Figures) {r c d x y : Result (Unit {0})} → r ≡ refuse (not (asked (t .packets) (f .packet))) (kind 10 []) (accepted tt)
+    → c ≡ stepOf (t .packets) → d ≡ roomIn t na nc (f .«n_radials») (f .«n_radials» * f .«n_bins»)
+    → y ≡ then c (λ _. d) → x ≡ then r (λ _. y) → x ≡ admit t na nc f
 unfolding admit
-admit-step t na nc f a y i = rw (← a, i) (simp y)
+admit-is t na nc f i j k m n = rw (n, m, i, j, k) (by (not (asked (t .packets) (f .packet))) _)
+  where
+    by : (b : Bool) (z : Result (Unit {0})) → then (refuse b (kind 10 []) (accepted (tt {0}))) (λ _. z) ≡ refuse b (kind 10 []) z
+    by true z = refl
+    by false z = refl
 
 -- the figures, and the buffers that held az and cs
 answered : {e : ℕ → ℕ → Result Picture} {d : Result Picture} (az : List Float) (cs : List ℕ) {r : FiguresRead} → d ≡ e (length az) (length cs) → figuresOf r ≡ figuresIn d

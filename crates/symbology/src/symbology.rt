@@ -14,10 +14,13 @@ use bytes::error::Buffer;
 use bytes::error::Level3DecodeError;
 use bytes::error::XdrItem;
 ghost use mathlib.Core.Path.{_≡_};
-ghost use mathlib.Core.Bool.{_&&_};
+ghost use mathlib.Core.Bool.{_&&_, not};
+ghost use mathlib.Core.List.{[]};
 ghost use Prim.Native.Nat.{_*_, _≤_};
 ghost use lib.Dec.{eqb};
 ghost use lib.ListN.{length};
+ghost use Rattle.bytes.specs.Refusal.{kind};
+ghost use Rattle.bytes.specs.Result.{accepted, refuse, then};
 ghost use Rattle.bytes.specs.Reading.{run};
 ghost use Rattle.symbology.specs.Symbology.{radialPacket, genericPacket, bodyShort, symbology};
 ghost use Rattle.symbology.specs.Answers.{asked, tooFew, stepOf, roomIn, admit, pictureOf, decodeFor, decodeOf, figuresIn, figuresOf, checkOf, Decodes};
@@ -155,7 +158,6 @@ pub fn check(body: &[u8]) -> FiguresRead
     }
 }
 
-// 10 where it does not hold.
 fn is_asked(packets: Packets, packet: Packet) -> bool
     ensures { λ r. ⌜ r ≡ asked packets packet ⌝ }
 {
@@ -222,26 +224,38 @@ fn test_room(terms: Terms, azimuths: usize, codes: usize, n_radials: usize, cell
     Check::Passed
 }
 
+// 10.
+fn test_packet(packets: Packets, packet: Packet) -> Check
+    ensures { λ r. ⌜ checkOf r ≡ refuse (not (asked packets packet)) (kind 10 []) (accepted tt) ⌝ }
+{
+    if !is_asked(packets, packet) {
+        return Check::Refused(Level3DecodeError::SchemeMismatch);
+    }
+    Check::Passed
+}
+
+// The first refusal of two tests.
+fn both(first: Check, second: Check) -> Check
+    ensures { λ r. ⌜ checkOf r ≡ then (checkOf first) (λ _. checkOf second) ⌝ }
+{
+    match first {
+        Check::Refused(error) => Check::Refused(error),
+        Check::Passed => second,
+    }
+}
+
 // 10, 9, 36.
 fn test_terms(terms: Terms, azimuths: usize, codes: usize, figures: Figures) -> Check
     requires { ⌜ figures .«n_radials» * figures .«n_bins» ≤ 4000000 ⌝ }
     ensures { λ r. ⌜ checkOf r ≡ admit terms azimuths codes figures ⌝ }
 {
-    let packet = figures.packet;
     let packets = terms.packets;
-    if !is_asked(packets, packet) {
-        return Check::Refused(Level3DecodeError::SchemeMismatch);
-    }
-    match test_step(packets) {
-        Check::Refused(error) => Check::Refused(error),
-        Check::Passed => test_room(
-            terms,
-            azimuths,
-            codes,
-            figures.n_radials,
-            figures.n_radials * figures.n_bins,
-        ),
-    }
+    let code = figures.packet;
+    let packet = test_packet(packets, code);
+    let step = test_step(packets);
+    let cells = figures.n_radials * figures.n_bins;
+    let room = test_room(terms, azimuths, codes, figures.n_radials, cells);
+    both(packet, both(step, room))
 }
 
 // The picture of a body on terms: its figures; in the front of the buffers the centres in degrees and the codes by row. A refusal
