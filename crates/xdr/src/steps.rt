@@ -72,7 +72,8 @@ fn float_step(r: FloatRead) -> FloatStep
 }
 
 pub fn float_after(buf: &[u8], st: Step) -> FloatStep
-    ensures { λ r. ⌜ (r .value ≡ valueOr (f32 0 1) (from float (now (buf .entry)) (stepOf st))) × (stepOf (r .then) ≡ after float (now (buf .entry)) (stepOf st)) ⌝ }
+    ensures { λ r. ⌜ (r .value ≡ valueOr (f32 0 1) (from float (now (buf .entry)) (stepOf st)))
+        × (stepOf (r .then) ≡ after float (now (buf .entry)) (stepOf st)) ⌝ }
 {
     match st {
         Step::At(at) => float_step(crate::xdr::unpack_float(buf, at)),
@@ -126,7 +127,8 @@ fn count_step(r: CountRead) -> CountStep
 }
 
 pub fn array_count_after(buf: &[u8], st: Step) -> CountStep
-    ensures { λ r. ⌜ (r .value ≡ valueOr 0 (from arrayCount (now (buf .entry)) (stepOf st))) × (stepOf (r .then) ≡ after arrayCount (now (buf .entry)) (stepOf st)) ⌝ }
+    ensures { λ r. ⌜ (r .value ≡ valueOr 0 (from arrayCount (now (buf .entry)) (stepOf st)))
+        × (stepOf (r .then) ≡ after arrayCount (now (buf .entry)) (stepOf st)) ⌝ }
 {
     match st {
         Step::At(at) => count_step(crate::xdr::array_count(buf, at)),
