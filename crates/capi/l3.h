@@ -168,6 +168,16 @@ uint32_t l3_codes(uint16_t *table, size_t table_len);
 uint32_t l3_xdr(uint32_t op, const uint8_t *payload, size_t payload_len, size_t at, int64_t *ints, size_t ints_len,
                 double *floats, size_t floats_len);
 
+/* A payload read with one cursor from its first byte on: an int, a uint, a float, a string, an array of integers, the head of a list (its
+ * count and a pointer), a list of parameters, each from where the one before it ended, after a refusal too. item says which of them is
+ * reported, from 0: as l3_xdr does, and for 5 with the number of elements in ints[0]. 7: ints[0] is the number of bytes left at the end. */
+uint32_t l3_items(uint32_t item, const uint8_t *payload, size_t payload_len, int64_t *ints, size_t ints_len,
+                  double *floats, size_t floats_len);
+
+/* A big-endian number at an offset. kind: 0 u16, 1 i16, 2 i32. ints[0]: 1 if its bytes are there, else 0; ints[1]: the number. */
+uint32_t l3_read(uint32_t kind, const uint8_t *bytes, size_t bytes_len, size_t offset, int64_t *ints, size_t ints_len,
+                 double *floats, size_t floats_len);
+
 #ifdef __cplusplus
 }
 #endif

@@ -196,7 +196,9 @@ impl Compare {
     pub fn random(&mut self, seed: u64, number: u64) {
         let rng = &mut Rng::new(seed, number);
         let case = match rng.below(100) {
-            0..=61 => cases::sweep(rng),
+            0..=59 => cases::sweep(rng),
+            60 => cases::each(rng),
+            61 => cases::read(rng),
             62..=71 => cases::symbology(rng),
             72..=77 => return self.damage(rng),
             78..=80 => cases::token(rng),

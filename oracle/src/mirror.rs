@@ -1,8 +1,8 @@
 //! The Rust behind the port's entries: `compare --self` puts it in the port's place, so that the boundary, the cases and the
 //! counting can be tried without the port. With a slip set it answers wrongly in one known way, which `compare` must find.
 use crate::model;
-use crate::port::{Entries, BAD_ARGUMENT, FLOATS, INTS, OPS, PACKETS, SHORT_REPORT};
-use lines::{Answer, Case, FieldKind, Fields, Geometry, Item, Lent, Packet, Picture, Refusal, Scheme, Sweep};
+use crate::port::{Entries, BAD_ARGUMENT, FLOATS, INTS, OPS, PACKETS, READS, SHORT_REPORT};
+use lines::{Answer, Case, Each, FieldKind, Fields, Geometry, Item, Lent, Packet, Picture, Refusal, Scheme, Sweep, EACH};
 use std::slice::{from_raw_parts, from_raw_parts_mut};
 use std::sync::atomic::{AtomicUsize, Ordering};
 
@@ -43,6 +43,8 @@ slips! {
     LastRowOfMany,
     FirstValueRepeated,
     OneValueMore,
+    MovesOnAfterRefusal,
+    ReadShortAtEnd,
 }
 
 /// 1 + the slip's place in `SLIPS`, or 0.
@@ -77,6 +79,8 @@ pub fn entries() -> Entries {
         known,
         codes,
         xdr,
+        items,
+        read,
     }
 }
 
@@ -102,6 +106,23 @@ impl Report<'_> {
             _ => {}
         }
         r.number
+    }
+
+    /// An item that was read at a position of the payload. Of a list nothing is given.
+    fn item(&mut self, item: &Item, payload: &[u8], at: usize) {
+        match item {
+            Item::Int(v) => self.ints[0] = (*v).into(),
+            Item::Uint(v) => self.ints[0] = (*v).into(),
+            Item::Float(v) => self.floats[0] = (*v).into(),
+            Item::Text(_) => {
+                let rest = &payload[at..];
+                let body = &rest[4..4 + u32::from_be_bytes(rest[..4].try_into().unwrap()) as usize];
+                let len = body.iter().rposition(|b| *b != 0).map_or(0, |i| i + 1);
+                self.ints[..2].copy_from_slice(&[at as i64 + 4, len as i64]);
+            }
+            Item::Array(v) => self.ints[..2].copy_from_slice(&[at as i64 + 4, v.len() as i64]),
+            Item::List(_) => {}
+        }
     }
 
     fn fields(&mut self, f: &Fields) {
@@ -521,17 +542,82 @@ unsafe extern "C" fn xdr(
         }
         return report.refuse(&r);
     }
-    match &items[0] {
-        Item::Int(v) => report.ints[0] = (*v).into(),
-        Item::Uint(v) => report.ints[0] = (*v).into(),
-        Item::Float(v) => report.floats[0] = (*v).into(),
-        Item::Text(_) => {
-            let body = &rest[4..4 + u32::from_be_bytes(rest[..4].try_into().unwrap()) as usize];
-            let len = body.iter().rposition(|b| *b != 0).map_or(0, |i| i + 1);
-            report.ints[..2].copy_from_slice(&[at as i64 + 4, len as i64]);
+    report.item(&items[0], payload, at);
+    0
+}
+
+/// The item with a number, where it was read, and the bytes left at the end. With `MovesOnAfterRefusal` four bytes are passed over
+/// after the first refusal.
+fn each(payload: &[u8], number: usize) -> (Option<Each>, usize, usize) {
+    let Answer::Each { mut reads, mut left } = answer(&Case::Each { payload: payload.to_vec() }) else { unreachable!() };
+    let first = reads.iter().position(|r| r.item.is_err());
+    if let (Some(k), true) = (first, slips(MovesOnAfterRefusal)) {
+        let from = reads[k].position;
+        if number > k && from + 4 <= payload.len() {
+            let shorter = [&payload[..from], &payload[from + 4..]].concat();
+            let Answer::Each { reads: again, left: less } = answer(&Case::Each { payload: shorter }) else { unreachable!() };
+            (reads, left) = (again, less);
+            reads.iter_mut().for_each(|r| r.position += 4);
         }
-        Item::Array(v) => report.ints[..2].copy_from_slice(&[at as i64 + 4, v.len() as i64]),
-        Item::List(_) => {}
+    }
+    let at = if number == 0 { 0 } else { reads[number - 1].position };
+    (reads.into_iter().nth(number), at, left)
+}
+
+unsafe extern "C" fn items(
+    number: u32,
+    payload: *const u8,
+    n: usize,
+    ints: *mut i64,
+    ints_len: usize,
+    floats: *mut f64,
+    floats_len: usize,
+) -> u32 {
+    let Some(mut report) = report(ints, ints_len, floats, floats_len) else { return SHORT_REPORT };
+    if number as usize > EACH.len() {
+        return BAD_ARGUMENT;
+    }
+    let payload = from_raw_parts(payload, n);
+    report.ints[..INTS].fill(0);
+    let (read, at, left) = each(payload, number as usize);
+    let Some(Each { item, position }) = read else {
+        report.ints[0] = left as i64;
+        return 0;
+    };
+    report.ints[15] = position as i64;
+    match item {
+        Ok(item) => {
+            report.item(&item, payload, at);
+            if EACH.as_bytes()[number as usize] == b'h' {
+                let Item::List(count) = item else { unreachable!() };
+                report.ints[0] = count as i64;
+            }
+            0
+        }
+        Err(r) => report.refuse(&r),
+    }
+}
+
+unsafe extern "C" fn read(
+    kind: u32,
+    b: *const u8,
+    n: usize,
+    offset: usize,
+    ints: *mut i64,
+    ints_len: usize,
+    floats: *mut f64,
+    floats_len: usize,
+) -> u32 {
+    let Some(report) = report(ints, ints_len, floats, floats_len) else { return SHORT_REPORT };
+    let Some(kind) = READS.get(kind as usize) else { return BAD_ARGUMENT };
+    let mut bytes = bytes(b, n);
+    if slips(ReadShortAtEnd) {
+        bytes.pop();
+    }
+    report.ints[..2].fill(0);
+    // where the Rust would overflow nothing is there
+    if let Answer::Number(n) = radish::answer(&Case::Read { bytes, offset, kind: *kind }) {
+        report.ints[..2].copy_from_slice(&[1, n as i64]);
     }
     0
 }

@@ -15,9 +15,12 @@
 //! | l3_sweep | 10 whether a scale is declared, 11 level count, 12 floor | 6, 7 minimum, step |
 //! | l3_linear, l3_float | 11 level count | 6, 7 minimum, step |
 //! | l3_precip | 12 floor, 13 ceiling or -1 | 6, 7 minimum, step |
-//! | l3_xdr | 0 value, or 0 start and 1 length; 15 the position after the read, also on a refusal | 0 value |
+//! | l3_xdr, l3_items | 0 value, or 0 start and 1 length; 15 the position after the read, also on a refusal (item 7: 0 the bytes left, no position) | 0 value |
+//! | l3_read | 0 whether the number is there, 1 the number | |
 use crate::fence::Fence;
-use lines::{Answer, Case, FieldKind, Fields, Geometry, Item, Lent, Packet, Picture, Refusal, Scale, Scheme, Sweep};
+use lines::{
+    Answer, Case, Each, FieldKind, Fields, Geometry, Item, Lent, Packet, Picture, Refusal, Scale, Scheme, Sweep, EACH,
+};
 
 macro_rules! entries {
     ($($field:ident: $name:ident($($argument:ident: $type:ty),* $(,)?);)*) => {
@@ -96,6 +99,14 @@ entries! {
         op: u32, payload: *const u8, payload_len: usize, at: usize,
         ints: *mut i64, ints_len: usize, floats: *mut f64, floats_len: usize,
     );
+    items: l3_items(
+        item: u32, payload: *const u8, payload_len: usize,
+        ints: *mut i64, ints_len: usize, floats: *mut f64, floats_len: usize,
+    );
+    read: l3_read(
+        kind: u32, bytes: *const u8, bytes_len: usize, offset: usize,
+        ints: *mut i64, ints_len: usize, floats: *mut f64, floats_len: usize,
+    );
 }
 
 pub const INTS: usize = 16;
@@ -108,6 +119,9 @@ pub const BAD_ARGUMENT: u32 = 101;
 pub const PACKETS: [i64; 3] = [16, 44831, 28];
 /// The items of `l3_xdr`, by number.
 pub const OPS: &str = "iufsal";
+
+/// The kinds of `l3_read`, by number.
+pub const READS: [FieldKind; 3] = [FieldKind::U16, FieldKind::I16, FieldKind::I32];
 
 /// Places past the end of what is lent, which nothing may write to.
 const GUARD: usize = 8;
@@ -233,6 +247,8 @@ impl Port {
             Case::Known { code } => Answer::Number(unsafe { (self.entries.known)(*code) }.into()),
             Case::Codes => self.codes(),
             Case::Xdr { ops, payload } => self.xdr(ops, payload),
+            Case::Each { payload } => self.each(payload),
+            Case::Read { bytes, offset, kind } => self.read(bytes, *offset, *kind),
         };
         Outcome { answer, place: self.place.take(), fault: self.fault.take() }
     }
@@ -249,19 +265,24 @@ impl Port {
         if refused != 0 {
             return (Err(self.refusal(refused)), position);
         }
-        let item = match op {
+        (Ok(self.item(op, payload, at)), position)
+    }
+
+    /// The item that the report holds, which was read at a position.
+    fn item(&mut self, op: char, payload: &[u8], at: usize) -> Item {
+        match op {
             'i' => Item::Int(self.whole(0)),
             'u' => Item::Uint(self.whole(0)),
             'f' => Item::Float(self.narrow(0)),
             's' => Item::Text(Some(self.text(payload, at).to_vec())),
             'a' => Item::Array(self.part(payload, 4).chunks(4).map(|w| i32::from_be_bytes(w.try_into().unwrap())).collect()),
+            'h' => Item::List(self.whole(0)),
             // the entry gives nothing: the number of elements is the count that stands at the position
             _ => {
                 let count = payload.get(at..).and_then(|p| p.get(..4)).map(|w| i32::from_be_bytes(w.try_into().unwrap()));
                 Item::List(count.unwrap_or(0).max(0) as usize)
             }
-        };
-        (Ok(item), position)
+        }
     }
 
     /// The place of the description block in a file that has one.
@@ -322,6 +343,18 @@ impl Port {
             let untouched = self.report_untouched() && self.buffers_untouched();
             asked.push((format!("l3_physical with scheme {scheme}"), number == BAD_ARGUMENT && untouched));
         }
+        let bytes = self.file.place(b"N0BLOT");
+        for number in [8, 9, 255, u32::MAX] {
+            self.prepare();
+            let (ints, floats) = (self.ints.as_mut_ptr(), self.floats.as_mut_ptr());
+            let items = unsafe { (self.entries.items)(number, bytes, 6, ints, INTS, floats, FLOATS) };
+            let read = unsafe { (self.entries.read)(number - 5, bytes, 6, 0, ints, INTS, floats, FLOATS) };
+            let refused = items == BAD_ARGUMENT && read == BAD_ARGUMENT;
+            asked.push((
+                format!("l3_items with item {number}, l3_read with kind {}", number - 5),
+                refused && self.report_untouched(),
+            ));
+        }
         for (bytes, levels) in [(31, 16), (33, 16), (0, 16), (32, 15), (32, 17), (32, 0)] {
             let pointer = self.file.place(&vec![1; bytes]);
             let out = self.physical.lend(levels, pattern32) as *mut f32;
@@ -362,6 +395,8 @@ impl Port {
                 ("l3_threshold", (e.threshold)(bytes, 6, 0, data.as_mut_ptr(), 32, i, ints, f, floats)),
                 ("l3_trailing", (e.trailing)(bytes, 6, i, ints, f, floats)),
                 ("l3_xdr", (e.xdr)(0, bytes, 6, 0, i, ints, f, floats)),
+                ("l3_items", (e.items)(0, bytes, 6, i, ints, f, floats)),
+                ("l3_read", (e.read)(0, bytes, 6, 0, i, ints, f, floats)),
             ]
         }
     }
@@ -521,6 +556,59 @@ impl Port {
         Answer::Xdr { items, refusal, position }
     }
 
+    /// The call for each item reads all of them with a cursor of its own.
+    fn each(&mut self, payload: &[u8]) -> Answer {
+        let (mut reads, mut at) = (vec![], 0);
+        for (number, op) in EACH.chars().enumerate() {
+            let refused = self.call_items(number, payload);
+            let position = self.ints[15] as usize;
+            let item = match refused {
+                0 => Ok(match self.item(op, payload, at) {
+                    Item::Text(Some(s)) if !s.is_ascii() => Item::Text(None),
+                    item => item,
+                }),
+                _ => Err(self.refusal(refused)),
+            };
+            reads.push(Each { item, position });
+            at = position;
+        }
+        let refused = self.call_items(EACH.len(), payload);
+        self.zero_ints(&[15]);
+        if refused != 0 {
+            self.found(format!("{refused} for the number of bytes left"));
+        }
+        Answer::Each { reads, left: self.whole(0) }
+    }
+
+    fn call_items(&mut self, number: usize, payload: &[u8]) -> u32 {
+        let pointer = self.file.place(payload);
+        self.prepare();
+        let (ints, floats) = (self.ints.as_mut_ptr(), self.floats.as_mut_ptr());
+        let refused = unsafe { (self.entries.items)(number as u32, pointer, payload.len(), ints, INTS, floats, FLOATS) };
+        self.check_report();
+        refused
+    }
+
+    fn read(&mut self, bytes: &[u8], offset: usize, kind: FieldKind) -> Answer {
+        let number = READS.iter().position(|k| *k == kind).expect("a number") as u32;
+        let entry = self.entries.read;
+        self.small(
+            bytes,
+            |b, n, i, fl| unsafe { entry(number, b, n, offset, i, INTS, fl, FLOATS) },
+            |p| match p.ints[0] {
+                0 => {
+                    p.zero_ints(&[1]);
+                    Answer::Nothing
+                }
+                1 => Answer::Number(p.ints[1].into()),
+                other => {
+                    p.found(format!("ints[0] is {other}"));
+                    Answer::Accepted
+                }
+            },
+        )
+    }
+
     /// A call that lends no buffer but the report.
     fn small(
         &mut self,
@@ -611,7 +699,9 @@ impl Port {
         }
     }
 
+    /// Lends no more places than any accepted sweep has, whatever a case line asks for.
     fn lend(&mut self, lent: Lent) {
+        let lent = lent.capped();
         self.azimuths.lend(lent.azimuths, pattern64);
         self.codes.lend(lent.codes, pattern16);
         self.physical.lend(lent.physical, pattern32);

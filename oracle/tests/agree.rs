@@ -1,8 +1,9 @@
 //! The Rust against itself through the port's boundary: nothing differs, every refusal and every packet under every scheme
 //! occurs, and a case survives its line.
-use lines::Case;
+use lines::{Case, Lent};
 use oracle::compare::Compare;
 use oracle::make::{cases, Rng};
+use oracle::port::Port;
 use oracle::{mirror, program};
 
 #[test]
@@ -24,10 +25,36 @@ fn the_rust_agrees_with_itself() {
 fn a_case_survives_its_line() {
     for number in 0..2000 {
         let rng = &mut Rng::new(3, number);
-        for case in [cases::sweep(rng), cases::field(rng), cases::block(rng), cases::xdr(rng), cases::scan_time(rng)] {
+        for case in [
+            cases::sweep(rng),
+            cases::field(rng),
+            cases::block(rng),
+            cases::xdr(rng),
+            cases::each(rng),
+            cases::read(rng),
+            cases::scan_time(rng),
+        ] {
             let line = case.line("name");
             let (name, again) = Case::parse(&line).unwrap();
             assert_eq!((name.as_str(), again.line("name")), ("name", line));
         }
+    }
+}
+
+#[test]
+fn a_line_lends_no_more_than_a_sweep_has() {
+    if !radish::AT_HAND {
+        return;
+    }
+    program::need_rust();
+    let mut port = Port::new(mirror::entries());
+    for number in 0..200 {
+        let Case::Sweep { clock, scheme, file, body, .. } = cases::accepted(&mut Rng::new(9, number)) else {
+            unreachable!()
+        };
+        let lent = Lent { azimuths: usize::MAX, codes: 1 << 40, physical: usize::MAX };
+        let case = Case::Sweep { clock, scheme, lent, file, body };
+        let outcome = port.run(&case, Lent::MOST);
+        assert!(radish::answer(&case).same(&outcome.answer) && outcome.fault.is_none());
     }
 }

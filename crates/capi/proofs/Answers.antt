@@ -4,6 +4,7 @@ use mathlib.Core.Bool.{Bool, true, false, cond}
 use mathlib.Core.List.{List, [], _∷_, append-nil}
 use Prim.Native.Nat.{ℕ, zero, suc, _≤_, _<_}
 use native.Mathlib.Nat.{le-of-suc-le-suc, not-suc-le-zero}
+use native.Mathlib.Omega.{arith}
 use lib.ListN.{length, take, drop}
 use lib.Seq.{drop-length}
 use lib.Ieee.{Float}
@@ -25,6 +26,10 @@ module _ {X A : Type 0} (f : A → Report) where
 
   pub ended-arm : (of : X → Ended A) {r : Report} {x x' : X} → r ≡ endedReport (of x') f → x ≡ x' → r ≡ endedReport (of x) f
   ended-arm of p q = p ∙ ap (λ y. endedReport (of y) f) (sym q)
+
+-- the same of a report that an answer has by itself
+pub report-arm : {X : Type 0} (f : X → Report) {r : Report} {x x' : X} → r ≡ f x' → x ≡ x' → r ≡ f x
+report-arm f p q = p ∙ ap f (sym q)
 
 -- a report without values is the same for any accepted value
 pub no-value : {A : Type 0} (r : Result A) → reportOf (then {B = Unit {0}} r λ _. accepted tt) noReport ≡ reportOf r noReport
@@ -72,6 +77,13 @@ none-chosen (x ∷ xs) (suc n) h = none-chosen xs n (le-of-suc-le-suc h)
 pub unknown : (k : ℕ) (xs : List Report) {n : ℕ} {ints : List ℕ} {floats : List Float}
     → length xs ≤ k → n ≡ cond (short (length ints) (length floats)) 100 101 → Leaves (choice k xs) n ints ints floats floats
 unknown k xs h e = fails e (none-chosen xs k h)
+
+-- a number that is not 0; one that is not below k, and is not k
+pub above-0 : {n : ℕ} → (n ≡ 0 → ⊥) → 1 ≤ n
+above-0 other = omega arith
+
+pub beyond : {n : ℕ} (k : ℕ) → k ≤ n → (n ≡ k → ⊥) → suc k ≤ n
+beyond k h other = omega arith
 
 -- ---- exact lengths
 

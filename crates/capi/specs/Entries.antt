@@ -1,5 +1,5 @@
 -- What the entries that take a kind, an item, a scheme or an exact length have to say.
-use Prim.Native.Nat.{ℕ}
+use Prim.Native.Nat.{ℕ, _-_}
 use mathlib.Core.List.{List, [], _∷_}
 use mathlib.Core.Bool.{cond, _&&_}
 use mathlib.Core.Path.{_≡_}
@@ -9,6 +9,7 @@ use lib.Ieee.{Float}
 use Rattle.bytes.specs.Reading.{walk}
 use Rattle.bytes.specs.Result.{Result}
 use Rattle.bytes.specs.Products.{codes}
+use Rattle.bytes.specs.Bytes.{readU16, readI16, readI32}
 use Rattle.head.specs.Pdb.{hwI16, hwU16, hwI32, hwPair}
 use Rattle.scale.specs.Pdb.{thresholdPlace}
 use Rattle.scale.specs.Legacy.{levelsOf}
@@ -19,11 +20,12 @@ use Rattle.symbology.specs.Answers.{Picture, figuresIn}
 use Rattle.sweep.specs.Sweep.{Accepted, sweepIn, Buffers, readInto}
 use Rattle.xdr.specs.Xdr as Xdr
 use Rattle.xdr.specs.Answers.{done, stringPart, arrayPart}
+use Rattle.xdr.specs.Each.{uintAt, floatAt, stringAt, arrayAt, headAt, listAt, endAt}
 use Rattle.capi.specs.declared.report.Report.{Report}
 use Rattle.capi.specs.declared.sweeps.Asked.{Asked}
 use Rattle.capi.specs.declared.sweeps.Asked.the-variants as Asked
 use Rattle.capi.specs.Report.{reportOf, endedReport, Said, said, failed, saying, choice, roomFirst, Leaves, lentBy}
-use Rattle.capi.specs.Places.{noReport, numberReport, signedReport, floatReport, pairReport, partReport, figuresReport, sweepReport}
+use Rattle.capi.specs.Places.{noReport, numberReport, signedReport, floatReport, pairReport, partReport, u16Report, i16Report, i32Report, figuresReport, sweepReport}
 
 -- a field, by its kind: i16, u16, i32, a pair of f32
 abbrev pub fieldSaid : List ℕ → ℕ → ℕ → ℕ → Said Report
@@ -39,6 +41,20 @@ xdrSaid op s at =
     (endedReport (walk Xdr.int s at) signedReport ∷ endedReport (walk Xdr.uint s at) numberReport ∷ endedReport (walk Xdr.float s at) floatReport
     ∷ endedReport (stringPart s at (walk Xdr.string s at)) partReport ∷ endedReport (arrayPart at (walk Xdr.intArray s at)) partReport
     ∷ endedReport (done (walk (Xdr.counted Xdr.parameter) s at)) noReport ∷ [])
+
+-- of the items that one cursor reads one after another, one by its number: int, uint, float, string, array of integers, head of a list,
+-- list of parameters, and 7 the number of bytes left after all of them
+abbrev pub itemsSaid : ℕ → List ℕ → Said Report
+itemsSaid item s =
+    choice item
+    (endedReport (walk Xdr.int s 0) signedReport ∷ endedReport (walk Xdr.uint s (uintAt s)) numberReport ∷ endedReport (walk Xdr.float s (floatAt s)) floatReport
+    ∷ endedReport (stringPart s (stringAt s) (walk Xdr.string s (stringAt s))) partReport ∷ endedReport (arrayPart (arrayAt s) (walk Xdr.intArray s (arrayAt s))) partReport
+    ∷ endedReport (walk Xdr.listHead s (headAt s)) numberReport ∷ endedReport (done (walk (Xdr.counted Xdr.parameter) s (listAt s))) noReport
+    ∷ numberReport (length s - endAt s) ∷ [])
+
+-- a number at an offset, by its kind: u16, i16, i32
+abbrev pub readSaid : ℕ → List ℕ → ℕ → Said Report
+readSaid kind s at = choice kind (u16Report (readU16 s at) ∷ i16Report (readI16 s at) ∷ i32Report (readI32 s at) ∷ [])
 
 -- the thresholds' place, for a buffer of n bytes, which has to be 32
 unfoldable pub thresholdSaid : List ℕ → ℕ → ℕ → Said (Result ℕ)

@@ -4,6 +4,12 @@ use mathlib.Core.List.{[], _∷_}
 use lib.IntN.{ℤ, negsuc}
 use lib.Ieee.{Float}
 use Rattle.bytes.specs.Float.{f64}
+use Rattle.bytes.specs.declared.bytes.U16Read.{U16Read}
+use Rattle.bytes.specs.declared.bytes.U16Read.the-variants as U16
+use Rattle.bytes.specs.declared.bytes.I16Read.{I16Read}
+use Rattle.bytes.specs.declared.bytes.I16Read.the-variants as I16
+use Rattle.bytes.specs.declared.bytes.I32Read.{I32Read}
+use Rattle.bytes.specs.declared.bytes.I32Read.the-variants as I32
 use Rattle.head.specs.declared.pdb.F32Pair.{F32Pair}
 use Rattle.head.specs.declared.pdb.PdbFields.{PdbFields}
 use Rattle.scale.specs.declared.scaling.LinearScale.{LinearScale}
@@ -41,6 +47,19 @@ floatReport x = report 0 [] (x ∷ [])
 
 abbrev pub pairReport : F32Pair → Report
 pairReport p = report 0 [] (p .scale ∷ p .offset ∷ [])
+
+-- whether a number is there, and the number
+abbrev pub u16Report : U16Read → Report
+u16Report (U16.Value n) = report 0 (1 ∷ n ∷ []) []
+u16Report U16.Nothing = report 0 (0 ∷ []) []
+
+abbrev pub i16Report : I16Read → Report
+i16Report (I16.Value z) = report 0 (1 ∷ word z ∷ []) []
+i16Report I16.Nothing = report 0 (0 ∷ []) []
+
+abbrev pub i32Report : I32Read → Report
+i32Report (I32.Value z) = report 0 (1 ∷ word z ∷ []) []
+i32Report I32.Nothing = report 0 (0 ∷ []) []
 
 abbrev pub partReport : Part → Report
 partReport p = report 0 (p .start ∷ p .len ∷ []) []

@@ -1,4 +1,4 @@
-// One XDR item, read at a position.
+// XDR items: one, read at a position, and one of each kind, read with one cursor.
 use crate::report::Report;
 use crate::report::bad_argument;
 use crate::report::refusal_report;
@@ -7,16 +7,17 @@ use crate::report::with_float;
 use crate::report::with_position;
 use crate::report::word_of;
 use crate::report::write_report;
+use xdr::xdr::CountRead;
 use xdr::xdr::FloatRead;
 use xdr::xdr::IntRead;
 use xdr::xdr::PartRead;
 use xdr::xdr::Step;
 use xdr::xdr::UintRead;
 ghost use mathlib.Core.Path.{_≡_};
-ghost use Rattle.xdr.specs.Answers.{intOf, uintOf, floatOf, partOf, stepOf};
+ghost use Rattle.xdr.specs.Answers.{intOf, uintOf, floatOf, partOf, countOf, stepOf};
 ghost use Rattle.capi.specs.Report.{endedReport, Leaves};
 ghost use Rattle.capi.specs.Places.{noReport, numberReport, signedReport, floatReport, partReport};
-ghost use Rattle.capi.specs.Entries.{xdrSaid};
+ghost use Rattle.capi.specs.Entries.{xdrSaid, itemsSaid};
 
 fn int_report(r: IntRead) -> Report
     ensures { λ x. ⌜ x ≡ endedReport (intOf r) signedReport ⌝ }
@@ -54,6 +55,15 @@ fn part_report(r: PartRead) -> Report
             next,
         ),
         PartRead::Refused { error, at } => with_position(refusal_report(error), at),
+    }
+}
+
+fn count_report(r: CountRead) -> Report
+    ensures { λ x. ⌜ x ≡ endedReport (countOf r) numberReport ⌝ }
+{
+    match r {
+        CountRead::Value { value, next } => with_position(wholes(0, value as u64, 0, 0, 0), next),
+        CountRead::Refused { error, at } => with_position(refusal_report(error), at),
     }
 }
 
@@ -99,6 +109,45 @@ pub extern "C" fn l3_xdr(
     if op == 5 {
         let answer = xdr::steps::skip_parameters(payload, Step::At(at));
         return write_report(step_report(answer), ints, floats);
+    }
+    bad_argument(ints.len(), floats.len())
+}
+
+#[no_mangle]
+pub extern "C" fn l3_items(item: u32, payload: &[u8], ints: &mut [u64], floats: &mut [f64]) -> u32
+    ensures { λ r. ⌜ Leaves (itemsSaid item (now (payload .entry))) r (now (ints .entry)) (now (ints .exit)) (now (floats .entry)) (now (floats .exit)) ⌝ }
+{
+    let read = xdr::each::read_each(payload);
+    if item == 0 {
+        let answer = read.int;
+        return write_report(int_report(answer), ints, floats);
+    }
+    if item == 1 {
+        let answer = read.uint;
+        return write_report(uint_report(answer), ints, floats);
+    }
+    if item == 2 {
+        let answer = read.float;
+        return write_report(float_report(answer), ints, floats);
+    }
+    if item == 3 {
+        let answer = read.string;
+        return write_report(part_report(answer), ints, floats);
+    }
+    if item == 4 {
+        let answer = read.array;
+        return write_report(part_report(answer), ints, floats);
+    }
+    if item == 5 {
+        let answer = read.head;
+        return write_report(count_report(answer), ints, floats);
+    }
+    if item == 6 {
+        let answer = read.list;
+        return write_report(step_report(answer), ints, floats);
+    }
+    if item == 7 {
+        return write_report(wholes(0, read.left as u64, 0, 0, 0), ints, floats);
     }
     bad_argument(ints.len(), floats.len())
 }

@@ -6,6 +6,7 @@ pub mod items;
 pub mod pdb;
 mod places;
 pub mod products;
+pub mod reads;
 mod report;
 pub mod scaling;
 pub mod sweeps;

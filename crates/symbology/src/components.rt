@@ -66,7 +66,7 @@ fn component(buf: &[u8], at: usize) -> PlanRead
 fn next_component(buf: &[u8], at: usize) -> Next
     ensures { λ r. ⌜ nextOf r ≡ position (walk nextComponent (now (buf .entry)) at) ⌝ }
 {
-    match xdr::xdr::take(buf, at, XdrItem::Int, 4) {
+    match xdr::steps::skip_word(buf, Step::At(at), XdrItem::Int) {
         Step::Refused { error, at: _ } => Next::Refused(error),
         Step::At(from) => match component(buf, from) {
             PlanRead::Refused(error) => Next::Refused(error),

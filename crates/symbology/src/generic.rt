@@ -2,15 +2,15 @@
 use crate::spans::SpanRead;
 use bytes::error::Level3DecodeError;
 use bytes::error::XdrItem;
-use xdr::steps::refuse_if;
 use xdr::steps::skip_string;
 use xdr::steps::skip_word;
 use xdr::xdr::Step;
 ghost use mathlib.Core.Path.{_≡_};
 ghost use Prim.Native.Nat.{_*_, _≤_, _<_};
-ghost use mathlib.Core.Bool.{_&&_};
+ghost use mathlib.Core.Bool.{cond, _&&_};
 ghost use lib.Dec.{eqb, ltb};
-ghost use Rattle.bytes.specs.Reading.{walk, reached};
+ghost use Rattle.bytes.specs.Refusal.{refusalOf};
+ghost use Rattle.bytes.specs.Reading.{walk, onward, passed, halted, reached};
 ghost use Rattle.xdr.specs.Answers.{stepOf, from, after};
 ghost use Rattle.symbology.specs.Symbology.{productBlock, xdrFrame, componentHead};
 ghost use Rattle.symbology.specs.Walk.{expectedOf, xdrRadialSpan, placeOf, placed, xdrRadialOf, gatesOf, gatesThen};
@@ -18,6 +18,22 @@ ghost use Rattle.symbology.specs.Walk.{expectedOf, xdrRadialSpan, placeO
 const RADIAL_COMPONENT_TYPE: usize = 1;
 
 const MAX_XDR_RADIALS: i32 = 100000;
+
+// Refused with the error where the test holds.
+fn refuse_if(st: Step, test: bool, error: Level3DecodeError) -> Step
+    ensures { λ r. ⌜ stepOf r ≡ onward (stepOf st) (λ _ p. cond test (halted (refusalOf error) p) (passed tt p)) ⌝ }
+{
+    match st {
+        Step::At(at) => {
+            if test {
+                Step::Refused { error, at }
+            } else {
+                Step::At(at)
+            }
+        }
+        Step::Refused { error: before, at } => Step::Refused { error: before, at },
+    }
+}
 
 fn expected_of(first: bool, bins: usize, own: usize) -> usize
     ensures { λ x. ⌜ x ≡ expectedOf first bins own ⌝ }

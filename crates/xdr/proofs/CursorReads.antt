@@ -149,6 +149,10 @@ on-cursor R = record {
   kept = (yes, tt);
 }
 
+-- what it says: of its answer, and of the cursor that it leaves
+abbrev pub read-clauses : (R : RattleType) (Says : List ℕ → ℕ → R .Denot → Type 0) (after : XdrCursor → XdrCursor) {M : Type 1} (𝓤 : URA M) → Clauses 𝓤 (on-cursor R)
+read-clauses R Says after 𝓤 κs a = record { ghost = Unit {0}; requires = λ _. emp 𝓤; ensures = λ _ r e. fact 𝓤 (Says (now (now (a .0) .buf)) (now (a .0) .pos) r × (now (e .0) ≡ after (now (a .0)))) }
+
 abbrev pub stayed : (R : RattleType) → Stays (on-cursor R .signature .params) (on-cursor R .kept)
 stayed R = (stay-ref (0 ∷ []) tt behind, tt)
 
@@ -180,9 +184,8 @@ module _ (E : Enum.Declared) (L : EL.Laws E) (pl : Plainss (Enum.variants E)) (f
   abbrev function : Fn
   function = read-fn (layout (Enum.shape E)) reader ender
 
-  module _ {M : Type 1} (𝓤 : URA M) where
-    abbrev pub read-clauses : Clauses 𝓤 (on-cursor R)
-    read-clauses κs a = record { ghost = Unit {0}; requires = λ _. emp 𝓤; ensures = λ _ r e. fact 𝓤 (Says (now (now (a .0) .buf)) (now (a .0) .pos) r × (now (e .0) ≡ after (now (a .0)))) }
+  abbrev clauses : {M : Type 1} (𝓤 : URA M) → Clauses 𝓤 (on-cursor R)
+  clauses = read-clauses R Says after
 
   module _ {M : Type 1} (𝓤 : URA M) (H : Heap 𝓤) (A : Atoms 𝓤) (W : Given 𝓤 H A) (κ κ′ : Lft) (q q′ : Share) (bounds : AllOutlive 2 (on-cursor R .signature .outlives) (κ, (κ′, tt))) (b o : ℕ) (γ : GName) (h : XdrCursor) where
     abbrev x : RefT XdrCursor × Unit {0}
@@ -195,7 +198,7 @@ module _ (E : Enum.Declared) (L : EL.Laws E) (pl : Plainss (Enum.variants E)) (f
     at = (vptr b o ∷ [], tt)
 
     abbrev Post : Val → SProp 𝓤
-    Post = walkOf 𝓤 H A (on-cursor R) (stayed R) (read-clauses 𝓤) .post (((κ, (κ′, tt)), (q, (q′, tt)), bounds, x, at), tt)
+    Post = walkOf 𝓤 H A (on-cursor R) (stayed R) (clauses 𝓤) .post (((κ, (κ′, tt)), (q, (q′, tt)), bounds, x, at), tt)
 
     abbrev D : Declared
     D = T.the-type (α κ′)
@@ -214,7 +217,7 @@ module _ (E : Enum.Declared) (L : EL.Laws E) (pl : Plainss (Enum.variants E)) (f
         → ent 𝓤 (⋆ 𝓤 H A (‵ (fobs γ (B κ′ .coded .code (h′ n))) ∷ ‵ (fbor κ (Body (mem (B κ′)) b o γ)) ∷ ‵ (flft κ q) ∷ (‵ (flft κ′ q′) ⊛ ‵ ftrue) ∷ [])) (Post u)
     exits r u n e k is =
         qed W (‵ (fobs γ (B κ′ .coded .code (h′ n))) ∷ ‵ (fbor κ (Body (mem (B κ′)) b o γ)) ∷ ‵ (flft κ q) ∷ (‵ (flft κ′ q′) ⊛ ‵ ftrue) ∷ []) ∵
-        suffices ! _ (ends-at 𝓤 H A (on-cursor R) (stayed R) (read-clauses 𝓤) W (((κ, (κ′, tt)), (q, (q′, tt)), bounds, x, at), tt) u r (h′ n, tt) (tt, tt)) $ says ! (e, ap h′ k ∙ moves h r e) $
+        suffices ! _ (ends-at 𝓤 H A (on-cursor R) (stayed R) (clauses 𝓤) W (((κ, (κ′, tt)), (q, (q′, tt)), bounds, x, at), tt) u r (h′ n, tt) (tt, tt)) $ says ! (e, ap h′ k ∙ moves h r e) $
         move ! (2 ∷ 3 ∷ []) $ join ! $ frame ! $ feqI ! (List Val) (vptr b o ∷ []) (vptr b o ∷ []) refl $ fjoin3 ! $ nothing ! $ move ! (1 ∷ 0 ∷ []) $ fjoin ! $
         owned ! R (Is R) (EL.makes E pl 𝓤 H A) r (u ∷ []) is $ move ! (1 ∷ 0 ∷ []) $ done !
 
@@ -255,23 +258,23 @@ module _ (E : Enum.Declared) (L : EL.Laws E) (pl : Plainss (Enum.variants E)) (f
 
   module _ {M : Type 1} (𝓤 : URA M) (H : Heap 𝓤) (A : Atoms 𝓤) (W : Given 𝓤 H A) where
     walks : (C : Calls 𝓤 H) (Λ : Loops 𝓤 H) → FmC 𝓤 H (W .laws) C → Triple 𝓤 (C reader) (OnSlice R Says 𝓤 H A) → Triple 𝓤 (C ender) (OnAnswer R end 𝓤 H A)
-        → Walks 𝓤 H A (on-cursor R) (stayed R) (WpFn 𝓤 H C Λ function) (read-clauses 𝓤)
-    walks C Λ fm known ended = walked 𝓤 H A (on-cursor R) (stayed R) (read-clauses 𝓤) (WpFn 𝓤 H C Λ function) (λ κs. (ptr-vals, tt)) (λ κs. (mut-tells (named 0) (κs .0) (B (κs .1 .0)), tt))
+        → Walks 𝓤 H A (on-cursor R) (stayed R) (WpFn 𝓤 H C Λ function) (clauses 𝓤)
+    walks C Λ fm known ended = walked 𝓤 H A (on-cursor R) (stayed R) (clauses 𝓤) (WpFn 𝓤 H C Λ function) (λ κs. (ptr-vals, tt)) (λ κs. (mut-tells (named 0) (κs .0) (B (κs .1 .0)), tt))
         (λ κs qs bounds a _ are. via 𝓤 _ (fst∗ 𝓤 _ (emp 𝓤)) (walk 𝓤 H A W (κs .0) (κs .1 .0) (qs .0) (qs .1 .0) bounds (a .0 .ptr .0) (a .0 .ptr .1) (a .0 .name) (a .0 .now) C Λ fm known ended))
 
     -- a read meets its contract, where the two functions meet theirs
     pub read-meets : (𝓣 : Tables 𝓤 H) → Triple 𝓤 (𝓣 .C reader) (OnSlice R Says 𝓤 H A) → Triple 𝓤 (𝓣 .C ender) (OnAnswer R end 𝓤 H A)
-        → Meets 𝓤 H A (on-cursor R .signature) (WpFn 𝓤 H (𝓣 .C) (𝓣 .Λ) function) (closing 𝓤 H A (on-cursor R) (read-clauses 𝓤))
-    read-meets 𝓣 known ended = walk-meets 𝓤 H A (on-cursor R) (stayed R) W (goes-ref 𝓤 H A W 2 0 tt behind, tt) (read-clauses 𝓤) (WpFn 𝓤 H (𝓣 .C) (𝓣 .Λ) function) (WpFn-mono 𝓤 H (W .laws) 𝓣 function) (walks (𝓣 .C) (𝓣 .Λ) (fmOf 𝓤 H (W .laws) 𝓣) known ended)
+        → Meets 𝓤 H A (on-cursor R .signature) (WpFn 𝓤 H (𝓣 .C) (𝓣 .Λ) function) (closing 𝓤 H A (on-cursor R) (clauses 𝓤))
+    read-meets 𝓣 known ended = walk-meets 𝓤 H A (on-cursor R) (stayed R) W (goes-ref 𝓤 H A W 2 0 tt behind, tt) (clauses 𝓤) (WpFn 𝓤 H (𝓣 .C) (𝓣 .Λ) function) (WpFn-mono 𝓤 H (W .laws) 𝓣 function) (walks (𝓣 .C) (𝓣 .Λ) (fmOf 𝓤 H (W .laws) 𝓣) known ended)
 
   -- as an entry of the table of its calls
   module _ {M : Type 1} (𝓤 : URA M) (H : Heap 𝓤) (𝓜 : Model 𝓤 H) (𝓖 : GhostRules 𝓤 H) (𝓡 : Running 𝓤 H 𝓜) (env : Env) where
     pub read-spec : (key : Name) → Closed 𝓤 H (tables 𝓤 H 𝓜 𝓡 env .C) (tables 𝓤 H 𝓜 𝓡 env .Λ) key function
         → {r s : Routine} → env reader ≡ r → env ender ≡ s → Triple 𝓤 (𝓡 .run r) (OnSlice R Says 𝓤 H (𝓖 .A)) → Triple 𝓤 (𝓡 .run s) (OnAnswer R end 𝓤 H (𝓖 .A))
-        → Meets 𝓤 H (𝓖 .A) (on-cursor R .signature) (tables 𝓤 H 𝓜 𝓡 env .C key) (closing 𝓤 H (𝓖 .A) (on-cursor R) (read-clauses 𝓤))
+        → Meets 𝓤 H (𝓖 .A) (on-cursor R .signature) (tables 𝓤 H 𝓜 𝓡 env .C key) (closing 𝓤 H (𝓖 .A) (on-cursor R) (clauses 𝓤))
     unfolding tablesOf
     read-spec key closed {r} {s} at-reader at-ender known ended =
-        entered 𝓤 H (tripleOf 𝓤 H (𝓖 .A) (on-cursor R .signature) (closing 𝓤 H (𝓖 .A) (on-cursor R) (read-clauses 𝓤)))
+        entered 𝓤 H (tripleOf 𝓤 H (𝓖 .A) (on-cursor R .signature) (closing 𝓤 H (𝓖 .A) (on-cursor R) (clauses 𝓤)))
         (tables 𝓤 H 𝓜 𝓡 env .C) (tables 𝓤 H 𝓜 𝓡 env .Λ) key function closed
         (read-meets 𝓤 H (𝓖 .A) (givenOf 𝓤 H 𝓜 𝓖) (tablesOf 𝓤 H 𝓜 (tables 𝓤 H 𝓜 𝓡 env))
         (cited 𝓤 H (OnSlice R Says 𝓤 H (𝓖 .A)) 𝓜 𝓡 env reader r at-reader known)

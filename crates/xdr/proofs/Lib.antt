@@ -3,3 +3,4 @@ pub mod Lists
 pub mod Plains
 pub mod Examples
 mod CursorReads
+mod CursorCalls

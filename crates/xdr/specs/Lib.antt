@@ -1,3 +1,4 @@
 pub mod Xdr
 pub mod Answers
 pub mod Cursor
+pub mod Each

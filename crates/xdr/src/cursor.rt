@@ -1,14 +1,16 @@
 // A payload and a position in it. Each read takes the cursor apart, calls the function on slice and position (module `xdr`), and leaves
 // the cursor at the position where the read ended, after a refusal too.
+use crate::xdr::CountRead;
 use crate::xdr::FloatRead;
 use crate::xdr::IntRead;
 use crate::xdr::PartRead;
+use crate::xdr::Step;
 use crate::xdr::UintRead;
 ghost use mathlib.Core.Path.{_≡_};
 ghost use Prim.Native.Nat.{_-_};
 ghost use lib.ListN.{length};
-ghost use Rattle.xdr.specs.Xdr.{int, uint, float, string, intArray};
-ghost use Rattle.xdr.specs.Answers.{uintOf, intOf, floatOf, partOf, stringPart, arrayPart};
+ghost use Rattle.xdr.specs.Xdr.{int, uint, float, string, intArray, listHead, parameter, counted};
+ghost use Rattle.xdr.specs.Answers.{uintOf, intOf, floatOf, partOf, countOf, stepOf, stringPart, arrayPart, done};
 ghost use Rattle.xdr.specs.Cursor.{endOf, start, readAt, past};
 
 pub struct XdrCursor<'a> {
@@ -50,6 +52,24 @@ fn part_end(r: PartRead) -> usize
     match r {
         PartRead::Value { value: _, next } => next,
         PartRead::Refused { error: _, at } => at,
+    }
+}
+
+fn count_end(r: CountRead) -> usize
+    ensures { λ n. ⌜ n ≡ endOf (countOf r) ⌝ }
+{
+    match r {
+        CountRead::Value { value: _, next } => next,
+        CountRead::Refused { error: _, at } => at,
+    }
+}
+
+fn step_end(r: Step) -> usize
+    ensures { λ n. ⌜ n ≡ endOf (stepOf r) ⌝ }
+{
+    match r {
+        Step::At(next) => next,
+        Step::Refused { error: _, at } => at,
     }
 }
 
@@ -107,6 +127,25 @@ impl<'a> XdrCursor<'a> {
     {
         let read = crate::xdr::unpack_int_array(self.buf, self.pos);
         self.pos = part_end(read);
+        read
+    }
+
+    // The number of elements of a list. The first stands at the position after it.
+    pub fn list_head<'s>(&'s mut self) -> CountRead
+        ensures { λ r. ⌜ (countOf r ≡ readAt listHead (now (self .entry))) × (now (self .exit) ≡ past listHead (now (self .entry))) ⌝ }
+    {
+        let read = crate::xdr::list_head(self.buf, self.pos);
+        self.pos = count_end(read);
+        read
+    }
+
+    // Past a counted list of parameters.
+    pub fn skip_parameters<'s>(&'s mut self) -> Step
+        ensures { λ r. ⌜ (stepOf r ≡ done (readAt (counted parameter) (now (self .entry))))
+            × (now (self .exit) ≡ past (counted parameter) (now (self .entry))) ⌝ }
+    {
+        let read = crate::steps::parameters_at(self.buf, self.pos);
+        self.pos = step_end(read);
         read
     }
 

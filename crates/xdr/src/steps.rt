@@ -4,14 +4,11 @@ use crate::xdr::FloatRead;
 use crate::xdr::IntRead;
 use crate::xdr::PartRead;
 use crate::xdr::Step;
-use bytes::error::Level3DecodeError;
 use bytes::error::XdrItem;
 ghost use mathlib.Core.Path.{_≡_};
-ghost use mathlib.Core.Bool.{cond};
 ghost use lib.IntN.{pos};
 ghost use Rattle.bytes.specs.Float.{f32};
-ghost use Rattle.bytes.specs.Refusal.{refusalOf};
-ghost use Rattle.bytes.specs.Reading.{walk, onward, passed, halted};
+ghost use Rattle.bytes.specs.Reading.{walk};
 ghost use Rattle.xdr.specs.Xdr.{pass, float, int, string, arrayCount, parameter, further, elements, counted};
 ghost use Rattle.xdr.specs.Answers.{stepOf, floatOf, intOf, countOf, partOf, done, from, after, valueOr};
 
@@ -75,7 +72,8 @@ fn float_step(r: FloatRead) -> FloatStep
 }
 
 pub fn float_after(buf: &[u8], st: Step) -> FloatStep
-    ensures { λ r. ⌜ (r .value ≡ valueOr (f32 0 1) (from float (now (buf .entry)) (stepOf st))) × (stepOf (r .then) ≡ after float (now (buf .entry)) (stepOf st)) ⌝ }
+    ensures { λ r. ⌜ (r .value ≡ valueOr (f32 0 1) (from float (now (buf .entry)) (stepOf st)))
+        × (stepOf (r .then) ≡ after float (now (buf .entry)) (stepOf st)) ⌝ }
 {
     match st {
         Step::At(at) => float_step(crate::xdr::unpack_float(buf, at)),
@@ -129,7 +127,8 @@ fn count_step(r: CountRead) -> CountStep
 }
 
 pub fn array_count_after(buf: &[u8], st: Step) -> CountStep
-    ensures { λ r. ⌜ (r .value ≡ valueOr 0 (from arrayCount (now (buf .entry)) (stepOf st))) × (stepOf (r .then) ≡ after arrayCount (now (buf .entry)) (stepOf st)) ⌝ }
+    ensures { λ r. ⌜ (r .value ≡ valueOr 0 (from arrayCount (now (buf .entry)) (stepOf st)))
+        × (stepOf (r .then) ≡ after arrayCount (now (buf .entry)) (stepOf st)) ⌝ }
 {
     match st {
         Step::At(at) => count_step(crate::xdr::array_count(buf, at)),
@@ -137,22 +136,6 @@ pub fn array_count_after(buf: &[u8], st: Step) -> CountStep
             value: 0,
             then: Step::Refused { error, at },
         },
-    }
-}
-
-// Refused with the error where the test holds.
-pub fn refuse_if(st: Step, test: bool, error: Level3DecodeError) -> Step
-    ensures { λ r. ⌜ stepOf r ≡ onward (stepOf st) (λ _ p. cond test (halted (refusalOf error) p) (passed tt p)) ⌝ }
-{
-    match st {
-        Step::At(at) => {
-            if test {
-                Step::Refused { error, at }
-            } else {
-                Step::At(at)
-            }
-        }
-        Step::Refused { error: before, at } => Step::Refused { error: before, at },
     }
 }
 
@@ -191,14 +174,20 @@ fn parameters_from(buf: &[u8], at: usize, n: usize) -> Step
 }
 
 // A counted list of parameters.
+pub(crate) fn parameters_at(buf: &[u8], at: usize) -> Step
+    ensures { λ r. ⌜ stepOf r ≡ done (walk (counted parameter) (now (buf .entry)) at) ⌝ }
+{
+    match crate::xdr::list_head(buf, at) {
+        CountRead::Refused { error, at } => Step::Refused { error, at },
+        CountRead::Value { value, next } => parameters_from(buf, next, value),
+    }
+}
+
 pub fn skip_parameters(buf: &[u8], st: Step) -> Step
     ensures { λ r. ⌜ stepOf r ≡ after (counted parameter) (now (buf .entry)) (stepOf st) ⌝ }
 {
     match st {
+        Step::At(at) => parameters_at(buf, at),
         Step::Refused { error, at } => Step::Refused { error, at },
-        Step::At(at) => match crate::xdr::list_head(buf, at) {
-            CountRead::Refused { error, at } => Step::Refused { error, at },
-            CountRead::Value { value, next } => parameters_from(buf, next, value),
-        },
     }
 }

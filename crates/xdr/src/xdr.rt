@@ -52,8 +52,8 @@ pub enum PartRead {
     Refused { error: Level3DecodeError, at: usize },
 }
 
-// Past the next n bytes.
-pub fn take(buf: &[u8], at: usize, item: XdrItem, n: usize) -> Step
+// Past the next n bytes: none at all pass at any position.
+pub(crate) fn take(buf: &[u8], at: usize, item: XdrItem, n: usize) -> Step
     ensures { λ r. ⌜ stepOf r ≡ walk (pass item n) (now (buf .entry)) at ⌝ }
 {
     let have = bytes::bytes::remaining(buf.len(), at);

@@ -118,6 +118,13 @@ pub enum Item {
     List(usize),
 }
 
+/// An item that a cursor read, or the refusal, and the position after it.
+#[derive(Debug, Clone)]
+pub struct Each {
+    pub item: std::result::Result<Item, Refusal>,
+    pub position: usize,
+}
+
 #[derive(Debug, Clone)]
 pub enum Answer {
     Refused(Refusal),
@@ -147,6 +154,13 @@ pub enum Answer {
         refusal: Option<Refusal>,
         position: usize,
     },
+    /// Each item or its refusal with the position after it, and the bytes left.
+    Each {
+        reads: Vec<Each>,
+        left: usize,
+    },
+    /// The number's bytes are not there.
+    Nothing,
     /// The Rust overflowed: outside its domain only.
     Panic,
 }
@@ -273,11 +287,23 @@ impl Item {
     }
 }
 
+impl Each {
+    pub fn same(&self, other: &Each) -> bool {
+        let items = match (&self.item, &other.item) {
+            (Ok(a), Ok(b)) => a.same(b),
+            (Err(a), Err(b)) => a.same(b),
+            _ => false,
+        };
+        items && self.position == other.position
+    }
+}
+
 impl Answer {
     pub fn refusal(&self) -> Option<&Refusal> {
         match self {
             Answer::Refused(r) => Some(r),
             Answer::Xdr { refusal, .. } => refusal.as_ref(),
+            Answer::Each { reads, .. } => reads.iter().find_map(|r| r.item.as_ref().err()),
             _ => None,
         }
     }
@@ -311,6 +337,10 @@ impl Answer {
                 };
                 refusals && c == f && a.len() == d.len() && a.iter().zip(d).all(|(x, y)| x.same(y))
             }
+            (Each { reads: a, left: b }, Each { reads: c, left: d }) => {
+                b == d && a.len() == c.len() && a.iter().zip(c).all(|(x, y)| x.same(y))
+            }
+            (Nothing, Nothing) => true,
             _ => false,
         }
     }
@@ -439,6 +469,18 @@ impl Display for Answer {
                 }
                 write!(f, " pos={position}")
             }
+            Answer::Each { reads, left } => {
+                write!(f, "E")?;
+                for read in reads {
+                    match &read.item {
+                        Ok(item) => write!(f, " {item}")?,
+                        Err(refusal) => write!(f, " {refusal}")?,
+                    }
+                    write!(f, " pos={}", read.position)?;
+                }
+                write!(f, " left={left}")
+            }
+            Answer::Nothing => write!(f, "N"),
             Answer::Panic => write!(f, "PANIC"),
         }
     }

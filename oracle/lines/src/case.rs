@@ -92,11 +92,33 @@ pub enum Case {
         ops: String,
         payload: Vec<u8>,
     },
+    /// The items of `EACH` one after another with one cursor, after a refusal too.
+    Each {
+        payload: Vec<u8>,
+    },
+    /// A number at an offset. A pair is none.
+    Read {
+        bytes: Vec<u8>,
+        offset: usize,
+        kind: FieldKind,
+    },
 }
+
+/// Int, uint, float, string, array, the head of a list, list of parameters.
+pub const EACH: &str = "iufsahl";
 
 impl Lent {
     /// Enough for every accepted sweep: 100,000 radials, 4,000,000 cells.
     pub const MOST: Lent = Lent { azimuths: 100_000, codes: 4_000_000, physical: 4_000_000 };
+
+    /// No more than `MOST`: no answer differs.
+    pub fn capped(self) -> Lent {
+        Lent {
+            azimuths: self.azimuths.min(Lent::MOST.azimuths),
+            codes: self.codes.min(Lent::MOST.codes),
+            physical: self.physical.min(Lent::MOST.physical),
+        }
+    }
 }
 
 impl Scheme {
@@ -193,6 +215,8 @@ impl Case {
             Case::Known { .. } => "known",
             Case::Codes => "codes",
             Case::Xdr { .. } => "xdr",
+            Case::Each { .. } => "each",
+            Case::Read { .. } => "read",
         }
     }
 
@@ -237,6 +261,11 @@ impl Case {
                     None => Case::Xdr { ops, payload: bytes(3)? },
                 }
             }
+            "each" => Case::Each { payload: bytes(2)? },
+            "read" => match FieldKind::parse(word(4)?)? {
+                FieldKind::Pair => return Err("no pair is read".into()),
+                kind => Case::Read { bytes: bytes(2)?, offset: number(word(3)?)?, kind },
+            },
             kind => return Err(format!("no kind of case is called {kind}")),
         };
         Ok((word(1)?.to_string(), case))
@@ -264,6 +293,8 @@ impl Case {
             Case::Trail { bytes } => hex(bytes),
             Case::Known { code } => code.to_string(),
             Case::Codes => return format!("{kind} {name}"),
+            Case::Each { payload } => hex(payload),
+            Case::Read { bytes, offset, kind } => format!("{} {offset} {}", hex(bytes), kind.text()),
             Case::Xdr { ops, payload } => format!("{} {}", if ops.is_empty() { "-" } else { ops }, hex(payload)),
         };
         format!("{kind} {name} {inputs}")

@@ -4,7 +4,7 @@ use super::error::Level3DecodeError as E;
 use super::symbology::{self, SymbologyResult};
 use super::{bytes, header, legacy16, pdb, products, xdr};
 use super::{class_int_physical, linear_declared_scale, precip_family_declared_scale, DeclaredLinearScale};
-use lines::{Answer, Case, FieldKind, Fields, Geometry, Item, Lent, Packet, Picture, Refusal, Scale, Scheme, Sweep, ITEMS};
+use lines::{Answer, Case, Each, FieldKind, Fields, Geometry, Item, Lent, Packet, Picture, Refusal, Scale, Scheme, Sweep, EACH, ITEMS};
 use ndarray::Array2;
 use std::cell::Cell;
 use std::panic::{catch_unwind, AssertUnwindSafe};
@@ -276,6 +276,40 @@ fn xdr_items(ops: &str, payload: &[u8]) -> Answer {
     Answer::Xdr { items, refusal: refused, position: payload.len() - cursor.bytes_remaining() }
 }
 
+/// The head of a list: the Rust has it inside its list alone, so the first element is refused here, and the count looked up.
+fn list_head(cursor: &mut xdr::XdrCursor, payload: &[u8]) -> Result<Item, E> {
+    let at = payload.len() - cursor.bytes_remaining();
+    match cursor.unpack_counted_list(|_, _| Err::<(), E>(E::UnsupportedXdrComponent(0))) {
+        Ok(list) => Ok(Item::List(list.len())),
+        Err(E::UnsupportedXdrComponent(_)) => {
+            let count: [u8; 4] = payload[at..at + 4].try_into().expect("four bytes");
+            Ok(Item::List(i32::from_be_bytes(count) as usize))
+        }
+        Err(e) => Err(e),
+    }
+}
+
+/// The items of `EACH` with one cursor, after a refusal too.
+fn each(payload: &[u8]) -> Answer {
+    let mut cursor = xdr::XdrCursor::new(payload);
+    let mut reads = vec![];
+    for op in EACH.chars() {
+        let item = if op == 'h' { list_head(&mut cursor, payload) } else { xdr_item(&mut cursor, op) };
+        reads.push(Each { item: item.map_err(refusal), position: payload.len() - cursor.bytes_remaining() });
+    }
+    Answer::Each { reads, left: cursor.bytes_remaining() }
+}
+
+fn read(buf: &[u8], offset: usize, kind: FieldKind) -> Answer {
+    let number = match kind {
+        FieldKind::U16 => bytes::read_u16_be(buf, offset).map(i128::from),
+        FieldKind::I16 => bytes::read_i16_be(buf, offset).map(i128::from),
+        FieldKind::I32 => bytes::read_i32_be(buf, offset).map(i128::from),
+        FieldKind::Pair => panic!("no pair is read"),
+    };
+    number.map_or(Answer::Nothing, Answer::Number)
+}
+
 fn field(file: &[u8], block: usize, index: usize, kind: FieldKind) -> Result<Answer, E> {
     Ok(match kind {
         FieldKind::I16 => Answer::Number(pdb::hw_i16(file, block, index)?.into()),
@@ -319,6 +353,8 @@ fn accepted(case: &Case) -> Result<Answer, Refusal> {
         Case::Known { code } => Answer::Number(products::is_known_message_code(*code) as i128),
         Case::Codes => Answer::Codes(products::known_message_codes()),
         Case::Xdr { ops, payload } => xdr_items(ops, payload),
+        Case::Each { payload } => each(payload),
+        Case::Read { bytes, offset, kind } => read(bytes, *offset, *kind),
     })
 }
 

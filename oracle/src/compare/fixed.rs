@@ -4,6 +4,7 @@ use super::Compare;
 use crate::make::body::{self, Body};
 use crate::make::{cases, file, Rng};
 use crate::model;
+use crate::port::READS;
 use crate::sample;
 use lines::{Answer, Case, FieldKind, Lent, Packet, Refusal, Scheme};
 
@@ -16,6 +17,12 @@ fn lists<T: Copy>(of: &[T], most: usize) -> Vec<Vec<T>> {
         all.extend(last.iter().cloned());
     }
     all
+}
+
+/// A string's words: its length, and its bytes, a multiple of four.
+fn words_of(text: &[u8]) -> Vec<u32> {
+    let body = text.chunks(4).map(|w| u32::from_be_bytes(w.try_into().unwrap()));
+    [text.len() as u32].into_iter().chain(body).collect()
 }
 
 fn words(list: &[u32]) -> Vec<u8> {
@@ -39,6 +46,8 @@ impl Compare {
         self.blocks(seed);
         self.levels(seed);
         self.xdr_words();
+        self.items();
+        self.reads();
         for number in 0..4 {
             let rng = &mut Rng::new(seed, u64::MAX - number);
             self.every_length(rng);
@@ -229,6 +238,40 @@ impl Compare {
             for at in (0..=payload.len()).chain(far) {
                 self.xdr_at(op, &payload, at);
                 self.xdr_at(op, &payload[..payload.len() - 3], at);
+            }
+        }
+    }
+
+    /// One cursor over an item of each kind: every list of up to three words where each item begins, and good items cut at every length.
+    fn items(&mut self) {
+        let good = [vec![7, 8, 9], words_of(b"ab\0\0"), vec![2, 5, 6], vec![1, 0], vec![2, 0, 0, 1, 0x6100_0000, 0, 0, 0]];
+        for begun in 0..good.len() {
+            for list in lists(&cases::WORDS, 3) {
+                let payload = words(&[good[..begun].concat(), list].concat());
+                for more in 0..4 {
+                    self.both(&Case::Each { payload: [&payload[..], &[b'a', 0, b'b'][..more]].concat() });
+                }
+            }
+        }
+        let payload = words(&good.concat());
+        for len in 0..=payload.len() {
+            self.both(&Case::Each { payload: payload[..len].to_vec() });
+        }
+    }
+
+    /// Every offset around the end of up to nine bytes. The offsets at which the Rust's sum would wrap are the table's.
+    fn reads(&mut self) {
+        for len in 0..=9 {
+            let bytes: Vec<u8> = (0..len).map(|i| 0x7f + 0x43 * i as u8).collect();
+            for kind in READS {
+                for offset in 0..len + 6 {
+                    self.both(&Case::Read { bytes: bytes.clone(), offset, kind });
+                }
+                for offset in
+                    EXTREMES.into_iter().chain([usize::MAX - 4, usize::MAX - 3, usize::MAX - 2]).filter(|o| *o >= 65_535)
+                {
+                    self.table(&Case::Read { bytes: bytes.clone(), offset, kind }, Answer::Nothing);
+                }
             }
         }
     }

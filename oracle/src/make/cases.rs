@@ -3,7 +3,8 @@ use super::body::{self, Body};
 use super::file::{self, File};
 use super::Rng;
 use crate::model::CODES;
-use lines::{Case, FieldKind, Lent, Packet, Scheme};
+use crate::port::READS;
+use lines::{Case, FieldKind, Lent, Packet, Scheme, EACH};
 
 /// A day and second, the time they stand for, and a clock that lets it pass.
 struct Time {
@@ -280,21 +281,44 @@ pub fn xdr(rng: &mut Rng) -> Case {
         payload.extend(rng.bytes(more));
         return Case::Xdr { ops, payload };
     }
+    items(rng, &ops, &mut payload);
+    Case::Xdr { ops, payload }
+}
+
+/// What `EACH` reads.
+pub fn each(rng: &mut Rng) -> Case {
+    let mut payload = vec![];
+    items(rng, EACH, &mut payload);
+    Case::Each { payload }
+}
+
+/// A few bytes and an offset around their end.
+pub fn read(rng: &mut Rng) -> Case {
+    let len = rng.below(12);
+    Case::Read { bytes: rng.bytes(len), offset: rng.below(len + 4), kind: rng.pick(&READS) }
+}
+
+/// Good items, or cut, or with a word changed.
+fn items(rng: &mut Rng, ops: &str, payload: &mut Vec<u8>) {
     for op in ops.chars() {
         match op {
-            's' => string(rng, &mut payload),
+            's' => string(rng, payload),
             'a' => {
                 let n = rng.below(4);
                 payload.extend((n as u32).to_be_bytes());
                 payload.extend(rng.bytes(4 * n));
+            }
+            'h' => {
+                payload.extend(rng.pick(&[0u32, 1, 2, u32::MAX]).to_be_bytes());
+                payload.extend(rng.u32().to_be_bytes());
             }
             'l' => {
                 let n: i32 = rng.pick(&[0, 0, 1, 2, 3, -1]);
                 payload.extend(n.to_be_bytes());
                 payload.extend(rng.u32().to_be_bytes());
                 for i in 0..n {
-                    string(rng, &mut payload);
-                    string(rng, &mut payload);
+                    string(rng, payload);
+                    string(rng, payload);
                     if i + 1 < n {
                         payload.extend(rng.u32().to_be_bytes());
                     }
@@ -313,7 +337,6 @@ pub fn xdr(rng: &mut Rng) -> Case {
         }
         _ => {}
     }
-    Case::Xdr { ops, payload }
 }
 
 fn string(rng: &mut Rng, to: &mut Vec<u8>) {

@@ -1,7 +1,7 @@
 use mathlib.Core.Path.{refl}
 use borrow.Author.Needs.{needs}
-use Rattle.xdr.proofs.steps.refuse_if.Statement.{statement}
-use Rattle.xdr.proofs.steps.refuse_if.Tie as tie
+use Rattle.symbology.proofs.generic.refuse_if.Statement.{statement}
+use Rattle.symbology.proofs.generic.refuse_if.Tie as tie
 
 enum-known-st : tie.Need-enum-known-st
 enum-known-st c = search needs
