@@ -48,7 +48,8 @@ pub extern "C" fn l3_read(
     ints: &mut [u64],
     floats: &mut [f64],
 ) -> u32
-    ensures { λ r. ⌜ Leaves (readSaid kind (now (bytes .entry)) offset) r (now (ints .entry)) (now (ints .exit)) (now (floats .entry)) (now (floats .exit)) ⌝ }
+    ensures { λ r. ⌜ Leaves (readSaid kind (now (bytes .entry)) offset)
+        r (now (ints .entry)) (now (ints .exit)) (now (floats .entry)) (now (floats .exit)) ⌝ }
 {
     if kind == 0 {
         let answer = bytes::bytes::read_u16_be(bytes, offset);

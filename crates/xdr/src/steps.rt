@@ -100,7 +100,8 @@ fn int_step(r: IntRead) -> IntStep
 }
 
 pub fn int_after(buf: &[u8], st: Step) -> IntStep
-    ensures { λ r. ⌜ (r .value ≡ valueOr (pos 0) (from int (now (buf .entry)) (stepOf st))) × (stepOf (r .then) ≡ after int (now (buf .entry)) (stepOf st)) ⌝ }
+    ensures { λ r. ⌜ (r .value ≡ valueOr (pos 0) (from int (now (buf .entry)) (stepOf st)))
+        × (stepOf (r .then) ≡ after int (now (buf .entry)) (stepOf st)) ⌝ }
 {
     match st {
         Step::At(at) => int_step(crate::xdr::unpack_int(buf, at)),
