@@ -148,7 +148,7 @@ pub fn check(body: &[u8]) -> FiguresRead
     ensures { λ r. ⌜ figuresOf r ≡ figuresIn (pictureOf (now (body .entry))) ⌝ }
 {
     match plan(body) {
-        BodyPlan::Refused(error) => FiguresRead::Refused(error),
+        BodyPlan::Refused(refusal) => FiguresRead::Refused(refusal),
         BodyPlan::Value {
             figures,
             from: _,
