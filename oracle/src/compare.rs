@@ -4,6 +4,7 @@ use crate::make::{cases, Rng};
 use crate::model;
 use crate::port::{Entries, Outcome, Port};
 use crate::trap;
+use crate::wanted;
 use lines::{Answer, Case, Lent, Packet, Refusal, Scheme, Sweep, NAMES};
 use std::collections::BTreeMap;
 
@@ -44,9 +45,9 @@ impl Compare {
         Compare { port: Port::new(entries), counts: Counts::default(), show: u64::MAX, every: false }
     }
 
-    /// Runs both on a case and holds the port's answer to the Rust's.
+    /// Runs both on a case and holds the port's answer to the Rust's, with what document 02 alters.
     pub fn both(&mut self, case: &Case) -> (Answer, Answer) {
-        let rust = radish::answer(case);
+        let rust = wanted::answer(case);
         self.counts.count(case, &rust);
         let lent = match &rust {
             Answer::Picture(p) => Lent { azimuths: p.radials + 1, codes: p.codes.len() + 3, physical: 0 },

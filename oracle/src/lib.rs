@@ -9,3 +9,4 @@ pub mod port;
 pub mod program;
 pub mod sample;
 pub mod trap;
+pub mod wanted;

@@ -22,7 +22,7 @@ slips! {
     ZeroRunEndsRow,
     SurplusRunsRefused,
     ListCapBeforePointer,
-    CentreWrapped,
+    CentreNotWrapped,
     RemainderMadePositive,
     FirstRowRepeated,
     NothingWritten,
@@ -151,9 +151,10 @@ unsafe fn bytes(pointer: *const u8, len: usize) -> Vec<u8> {
     from_raw_parts(pointer, len).to_vec()
 }
 
-/// The Rust's answer, and 3 where the Rust would overflow.
+/// The Rust's answer with what document 02 alters, and 3 where the Rust would overflow.
 fn answer(case: &Case) -> Answer {
-    match radish::answer(case) {
+    let given = if slips(CentreNotWrapped) { radish::answer(case) } else { crate::wanted::answer(case) };
+    match given {
         Answer::Panic => Answer::Refused(Refusal::new(3, &[first_field(case)])),
         answer => answer,
     }
@@ -504,10 +505,10 @@ unsafe extern "C" fn known(code: i16) -> u32 {
 
 unsafe extern "C" fn codes(codes: *mut u16, codes_len: usize) -> u32 {
     let Answer::Codes(given) = answer(&Case::Codes) else { unreachable!() };
-    if codes_len != given.len() {
+    if codes_len < given.len() {
         return BAD_ARGUMENT;
     }
-    from_raw_parts_mut(codes, codes_len).copy_from_slice(&given);
+    from_raw_parts_mut(codes, given.len()).copy_from_slice(&given);
     0
 }
 
@@ -679,9 +680,6 @@ fn slipped_refusal(body: &[u8], lent: Option<Lent>, answer: &Answer) -> Option<R
 }
 
 fn slip_picture(p: &mut Picture) {
-    if slips(CentreWrapped) && p.packet != Packet::P28 {
-        p.azimuths.iter_mut().for_each(|a| *a %= 360.0);
-    }
     if slips(RemainderMadePositive) && p.packet == Packet::P28 {
         p.azimuths.iter_mut().filter(|a| **a < 0.0).for_each(|a| *a += 360.0);
     }

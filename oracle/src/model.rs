@@ -136,6 +136,12 @@ fn radial_layout(body: &[u8], packet: Packet) -> Layout {
     Layout { packet, bins: u16_at(body, 20), data, unread }
 }
 
+/// Document 02, M-100: the centres of an accepted body of packet 16 or AF1F in degrees, each from its radial's start and width.
+pub fn centres(body: &[u8]) -> Vec<f64> {
+    let prefixes = layout(body).data.into_iter().map(|data| &body[data.start - 6..data.start]);
+    prefixes.map(|prefix| ((2 * u16_at(prefix, 2) + u16_at(prefix, 4)) % 7200) as f64 / 20.0).collect()
+}
+
 /// A walk over the items of a packet 28 payload.
 struct Items<'a> {
     body: &'a [u8],

@@ -356,6 +356,9 @@ fn grids(list: &mut List) {
         ("zeros_only", af1f(5, &[(2, 0, 10, &[0x05, 0x06, 0, 0])])),
         ("short_in_second", af1f(3, &[(1, 0, 10, &[0x31, 0]), (1, 10, 10, &[0x11, 0x15])])),
         ("start_65535", p16(1, &[(1, 65_535, 10, &[120])])),
+        ("centre_last", p16(1, &[(1, 3599, 1, &[1])])),
+        ("centre_0_again", af1f(1, &[(1, 3595, 10, &[0x11, 0])])),
+        ("centre_twice_round", p16(1, &[(1, 7199, 3, &[1])])),
         ("after_the_radials", [p16(1, &[(1, 5, 10, &[3])]), vec![1, 2, 3]].concat()),
     ] {
         list.class(name, body);

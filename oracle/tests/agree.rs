@@ -4,7 +4,7 @@ use lines::{Case, Lent};
 use oracle::compare::Compare;
 use oracle::make::{cases, Rng};
 use oracle::port::Port;
-use oracle::{mirror, program};
+use oracle::{mirror, program, wanted};
 
 #[test]
 fn the_rust_agrees_with_itself() {
@@ -55,6 +55,6 @@ fn a_line_lends_no_more_than_a_sweep_has() {
         let lent = Lent { azimuths: usize::MAX, codes: 1 << 40, physical: usize::MAX };
         let case = Case::Sweep { clock, scheme, lent, file, body };
         let outcome = port.run(&case, Lent::MOST);
-        assert!(radish::answer(&case).same(&outcome.answer) && outcome.fault.is_none());
+        assert!(wanted::answer(&case).same(&outcome.answer) && outcome.fault.is_none());
     }
 }

@@ -81,6 +81,6 @@ line("bins", BINS)
 line("range scale", RANGE_SCALE)
 print("\nthe first 4 of %d radials, the first 8 of %d bins" % (len(RADIALS), BINS))
 for r, (start, width, codes) in enumerate(RADIALS[:4]):
-    print("radial %d, centre %s degrees" % (r, fixed((start + Q(width, 2)) / 10, 3)))
+    print("radial %d, centre %s degrees" % (r, fixed(Q((2 * start + width) % 7200, 20), 3)))
     print("  codes " + "".join(" %8d" % c for c in codes[:8]))
     print("  values" + "".join(" %8s" % value(c) for c in codes[:8]))

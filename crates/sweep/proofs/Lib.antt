@@ -10,3 +10,4 @@ pub mod InWords
 pub mod Table
 pub mod Timed
 pub mod Reading
+pub mod Circle

@@ -37,8 +37,8 @@ pub record Table : Type 0 where
   pub p8 : pictureOf (oneRadial 0xAF1F 5 (1, 0, 10) (0x31 ∷ 0x35 ∷ [])) ≡ refused (kind 22 (nat 0 ∷ nat 3 ∷ nat 5 ∷ []))
   -- P9 `31 25 F7 00` as P7
   pub p9 : pictureOf (oneRadial 0xAF1F 5 (2, 0, 10) (0x31 ∷ 0x25 ∷ 0xF7 ∷ 0x00 ∷ [])) ≡ onePicture PacketAf1f 5 (f64 5 10) (1 ∷ 1 ∷ 1 ∷ 5 ∷ 5 ∷ [])
-  -- P10 start 3,599, width 10: 360.4
-  pub p10 : pictureOf (oneRadial 16 2 (2, 3599, 10) (7 ∷ 9 ∷ [])) ≡ onePicture Packet16 2 (f64 3604 10) (7 ∷ 9 ∷ [])
+  -- P10 start 3,599, width 10: 0.4, as document 02 (M-100) alters it
+  pub p10 : pictureOf (oneRadial 16 2 (2, 3599, 10) (7 ∷ 9 ∷ [])) ≡ onePicture Packet16 2 (f64 4 10) (7 ∷ 9 ∷ [])
   -- P11 flag 0x21, value 40, post-scale 1: -2
   pub p11 : legacyLevel 0x21 40 (f32 1 1) ≡ neg (f32 2 1)
   -- P12 leading 9: floor 1, whatever largest and trailing are

@@ -1,11 +1,12 @@
--- An accepted body has a centre for each of its radials. Assumes nothing.
+-- An accepted body has a centre for each of its radials, and in packets 16 and AF1F each lies in the circle. Assumes nothing.
 use Prim.Native.Nat.{ℕ, zero, suc, _+_, _-_, _<_}
 use native.Mathlib.Omega.{arith}
 use mathlib.Core.List.{List, [], _∷_}
 use mathlib.Core.Bool.{Bool, true, false, cond}
+use mathlib.Core.Logic.{_≢_}
 use mathlib.Core.Path.{_≡_, refl, sym, ap, _∙_}
-use lib.ListN.{length, take}
-use lib.Ieee.{Float}
+use lib.ListN.{length, getD, take}
+use lib.Ieee.{Float, nan}
 use lib.Dec.{eqb}
 use Rattle.bytes.specs.Bytes.{signed}
 use Rattle.bytes.specs.Refusal.{Refusal, kind, whole}
@@ -14,8 +15,10 @@ use Rattle.bytes.specs.Reading.{Read, Flat, give, stop, within, Given, run, _>>
 use Rattle.bytes.proofs.Runs.{and-then, prepend, run-then}
 use Rattle.xdr.specs.Xdr.{further, elements, counted}
 use Rattle.symbology.specs.declared.figures.Packet.{Packet}
-use Rattle.symbology.specs.declared.figures.Packet.the-variants.{Packet16, PacketAf1f}
-use Rattle.symbology.specs.Symbology.{Sweep, radialWalk, radialPacket, xdrWalk, xdrRadials, componentHead, component, only, payload, genericPacket, packetOf, symbology}
+use Rattle.symbology.specs.declared.figures.Packet.the-variants.{Packet16, PacketAf1f, Packet28}
+use Rattle.symbology.specs.Symbology.{Sweep, radial, radialWalk, radialPacket, xdrWalk, xdrRadials, componentHead, component, only, payload, genericPacket, packetOf, symbology}
+use Rattle.symbology.specs.Circle.{InCircle, FirstInCircle}
+use Rattle.symbology.proofs.Circle.{centre-in-circle}
 use Rattle.symbology.proofs.Payload.{counted-small}
 
 -- whatever the bytes are, a value that the reading gives has P
@@ -131,54 +134,88 @@ module _ {A : Type 0} {e : Flat A} {P : A → Type 0} (each : Gives e P) where
   unfolding counted
   counted-each = gives-on _ elements-each
 
-only-centred : (l : List Sweep) → Each Centred l → Gives (only l) Centred
-unfolding only
-only-centred [] h = gives-none _
-only-centred (a ∷ []) h = gives a (h .0)
-only-centred (a ∷ b ∷ l) h = gives-none _
+-- What every sweep of a packet 16 or AF1F and every component has, an accepted body has.
+module _ {P : Sweep → Type 0} (radial-packet : (packet : Packet) → Gives (radialPacket packet) P) (each : Gives component P) where
+  only-has : (l : List Sweep) → Each P l → Gives (only l) P
+  unfolding only
+  only-has [] h = gives-none _
+  only-has (a ∷ []) h = gives a (h .0)
+  only-has (a ∷ b ∷ l) h = gives-none _
 
-payload-centred : Gives payload Centred
-unfolding payload
-payload-centred =
-    gives-past _ λ _.
-    gives-then (counted-each component-centred) λ l h.
-    gives-then (only-centred l h) λ a k.
-    gives-on _ λ rest.
-    gives-past _ λ _.
-    gives a k
+  payload-has : Gives payload P
+  unfolding payload
+  payload-has =
+      gives-past _ λ _.
+      gives-then (counted-each each) λ l h.
+      gives-then (only-has l h) λ a k.
+      gives-on _ λ rest.
+      gives-past _ λ _.
+      gives a k
 
-generic-centred : Gives genericPacket Centred
-unfolding genericPacket
-generic-centred =
-    gives-on _ λ avail.
-    gives-past _ λ _.
-    gives-past _ λ _.
-    gives-on _ λ n.
-    gives-on _ λ room.
-    gives-past _ λ _.
-    gives-within payload-centred
+  generic-has : Gives genericPacket P
+  unfolding genericPacket
+  generic-has =
+      gives-on _ λ avail.
+      gives-past _ λ _.
+      gives-past _ λ _.
+      gives-on _ λ n.
+      gives-on _ λ room.
+      gives-past _ λ _.
+      gives-within payload-has
 
-code-centred : (code : ℕ) → Gives (packetOf code) Centred
-unfolding packetOf
-code-centred code = by (eqb code 16) (eqb code 0xAF1F) (eqb code 28)
-  where
-    by : (c₁ c₂ c₃ : Bool)
-        → Gives (cond c₁ (radialPacket Packet16) (cond c₂ (radialPacket PacketAf1f) (cond c₃ genericPacket (stop (kind 14 (whole (signed 32768 code) ∷ [])))))) Centred
-    by true c₂ c₃ = packet-centred Packet16
-    by false true c₃ = packet-centred PacketAf1f
-    by false false true = generic-centred
-    by false false false = gives-none _
+  code-has : (code : ℕ) → Gives (packetOf code) P
+  unfolding packetOf
+  code-has code = by (eqb code 16) (eqb code 0xAF1F) (eqb code 28)
+    where
+      by : (c₁ c₂ c₃ : Bool)
+          → Gives (cond c₁ (radialPacket Packet16) (cond c₂ (radialPacket PacketAf1f) (cond c₃ genericPacket (stop (kind 14 (whole (signed 32768 code) ∷ [])))))) P
+      by true c₂ c₃ = radial-packet Packet16
+      by false true c₃ = radial-packet PacketAf1f
+      by false false true = generic-has
+      by false false false = gives-none _
 
-body-centred : Gives symbology Centred
-unfolding symbology
-body-centred =
-    gives-on _ λ n.
-    gives-past _ λ _.
-    gives-on _ λ divider.
-    gives-on _ λ block.
-    gives-past _ λ _.
-    gives-past _ λ _.
-    gives-on _ code-centred
+  body-has : Gives symbology P
+  unfolding symbology
+  body-has =
+      gives-on _ λ n.
+      gives-past _ λ _.
+      gives-on _ λ divider.
+      gives-on _ λ block.
+      gives-past _ λ _.
+      gives-past _ λ _.
+      gives-on _ code-has
 
 pub centred : (b : List ℕ) (g : Given Sweep) → run symbology b 0 ≡ accepted g → length (g .value .azimuths) ≡ g .value .figures .«n_radials»
-centred b g e = body-centred .holds b 0 g e
+centred b g e = body-has packet-centred component-centred .holds b 0 g e
+
+-- ---- centres in the circle
+
+radial-circled : (packet : Packet) (radials bins r : ℕ) → Gives (radial packet radials bins r) InCircle
+unfolding radial
+radial-circled packet radials bins r = gives-on _ λ beam. gives-past _ λ _. gives _ (centre-in-circle (beam .start) (beam .width))
+
+walk-circled : (packet : Packet) (radials bins n r : ℕ) → Gives (radialWalk packet radials bins n r) (Each InCircle)
+unfolding radialWalk
+walk-circled packet radials bins zero r = gives _ tt
+walk-circled packet radials bins (suc n) r =
+    gives-then (radial-circled packet radials bins r) λ a h. gives-then (walk-circled packet radials bins n (suc r)) λ l k. gives _ (h, k)
+
+abbrev Circled : Sweep → Type 0
+Circled a = a .figures .packet ≢ Packet28 → Each InCircle (a .azimuths)
+
+packet-circled : (packet : Packet) → Gives (radialPacket packet) Circled
+unfolding radialPacket
+packet-circled packet = gives-on _ λ h. gives-then (walk-circled packet (h .radials) (h .bins) (h .radials) 0) λ l k. gives _ (λ _. k)
+
+component-circled : Gives component Circled
+unfolding component xdrRadials
+component-circled = gives-on _ λ h. gives-on _ λ first. gives-on _ λ l. gives _ (λ no. absurd (no refl))
+
+each-at : (P : Float → Type 0) (l : List Float) → Each P l → (r : ℕ) → r < length l → P (getD l r nan)
+each-at P [] h r lt = absurd (omega arith)
+each-at P (a ∷ l) h zero lt = h .0
+each-at P (a ∷ l) h (suc r) lt = each-at P l (h .1) r (omega arith)
+
+pub circled : (b : List ℕ) (g : Given Sweep) → run symbology b 0 ≡ accepted g → g .value .figures .packet ≢ Packet28
+    → FirstInCircle (g .value .figures .«n_radials») (g .value .azimuths)
+circled b g e old r lt = each-at InCircle (g .value .azimuths) (body-has packet-circled component-circled .holds b 0 g e old) r (rw (centred b g e) lt)

@@ -19,6 +19,7 @@ pub mod Path
 pub mod Marks
 pub mod Placement
 pub mod RowPlaces
+pub mod Circle
 pub mod Centres
 pub mod Words
 pub mod Walking

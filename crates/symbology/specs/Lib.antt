@@ -1,5 +1,6 @@
 pub mod Trailing
 pub mod Centre
+pub mod Circle
 pub mod Rows
 pub mod Runs
 pub mod Levels

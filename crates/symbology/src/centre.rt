@@ -2,10 +2,12 @@
 ghost use mathlib.Core.Path.{_≡_};
 ghost use Rattle.symbology.specs.Centre.{centre, centre28, widthDegrees};
 
+// Packets 16 and AF1F: of start and width in tenths, from 0 up to but not including 360 degrees.
 pub fn azimuth_centre_deg(start_angle: u16, delta: u16) -> f64
     ensures { λ r. ⌜ r ≡ centre «start_angle» delta ⌝ }
 {
-    (start_angle as f64 + delta as f64 / 2.0) / 10.0
+    let twentieths = (2 * (start_angle as u32) + delta as u32) % 7200;
+    twentieths as f64 / 20.0
 }
 
 // Packet 28: of azimuth and width as they stand in the packet.

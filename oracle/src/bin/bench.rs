@@ -10,6 +10,7 @@ use oracle::make::{body, generic, Rng};
 use oracle::port::{Entries, Port, Timed};
 use oracle::program::{self, Arguments};
 use oracle::sample;
+use oracle::wanted;
 use std::hint::black_box;
 use std::process::exit;
 use std::time::Instant;
@@ -86,7 +87,7 @@ impl Job<'_> {
 
     /// What is timed must give the same answer.
     fn agree(&self, case: &Case) {
-        let rust = radish_fast::answer(case);
+        let rust = wanted::altered(case, radish_fast::answer(case));
         assert!(!matches!(rust, Answer::Refused(_)), "{}: {rust}", self.name);
         let port = Port::new(self.entries).run(case, self.lent);
         if !rust.same(&port.answer) || port.fault.is_some() {

@@ -1,6 +1,7 @@
-//! A list of small cases: its case lines, or with `--answers` the Rust's answer lines to them.
+//! A list of small cases: its case lines, or with `--answers` the answer lines to them: the Rust's, with what document 02 alters.
 use oracle::program::{self, Arguments};
 use oracle::sample;
+use oracle::wanted;
 use std::process::exit;
 
 fn main() {
@@ -14,7 +15,7 @@ fn main() {
     }
     for (name, case) in &list {
         if arguments.has("--answers") {
-            println!("{name} {}", radish::answer(case));
+            println!("{name} {}", wanted::answer(case));
         } else {
             println!("{}", case.line(name));
         }

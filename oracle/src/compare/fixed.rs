@@ -55,6 +55,7 @@ impl Compare {
         }
         self.every_width(seed);
         self.mixed_radials(seed);
+        self.every_centre(seed);
         self.caps(seed);
         self.grids(seed);
     }
@@ -366,6 +367,23 @@ impl Compare {
             }
             bytes.pop();
             self.both(&Case::Sym { body: bytes });
+        }
+    }
+
+    /// Every start and width of packets 16 and AF1F: bodies of 32,768 radials of one width and one bin.
+    fn every_centre(&mut self, seed: u64) {
+        let rng = &mut Rng::new(seed, u64::MAX / 13);
+        for (packet, data) in [(Packet::P16, &[7][..]), (Packet::Af1f, &[0x17, 0])] {
+            for width in 1..=100u16 {
+                for starts in [0..=0x7fff, 0x8000..=0xffffu16] {
+                    let mut bytes = body::header(rng, packet, starts.len(), 1);
+                    for start in starts {
+                        bytes.extend([1, start, width].map(u16::to_be_bytes).concat());
+                        bytes.extend(data);
+                    }
+                    self.both(&Case::Sym { body: bytes });
+                }
+            }
         }
     }
 

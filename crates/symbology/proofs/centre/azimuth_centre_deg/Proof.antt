@@ -6,15 +6,18 @@ use borrow.Author.Needs.{needs}
 use Rattle.symbology.proofs.centre.azimuth_centre_deg.Statement.{statement}
 use Rattle.symbology.proofs.centre.azimuth_centre_deg.Tie as tie
 
+mul-twentieths : tie.Need-mul-twentieths
+mul-twentieths c = search needs
+
+add-twentieths : tie.Need-add-twentieths
+add-twentieths c = search needs
+
 int-to-float-result : tie.Need-int-to-float-result
 int-to-float-result c = search needs
-
-int-to-float-result-2 : tie.Need-int-to-float-result-2
-int-to-float-result-2 c = search needs
 
 returns : tie.Need-returns
 unfolding ofBits f64 centre
 returns c = refl
 
 pub azimuth-centre-deg-spec : {M : Type 1} → statement M
-azimuth-centre-deg-spec = tie.close (tie.spec int-to-float-result int-to-float-result-2 returns)
+azimuth-centre-deg-spec = tie.close (tie.spec mul-twentieths add-twentieths int-to-float-result returns)
