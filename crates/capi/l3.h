@@ -86,7 +86,7 @@ enum {
     L3_CUT_ARRAY_BODY = 5,
     L3_CUT_PACKET_BODY = 6
 };
-enum { L3_AZIMUTHS = 0, L3_CODES = 1, L3_PHYSICAL = 2 };
+enum { L3_AZIMUTHS = 0, L3_CODES = 1, L3_PHYSICAL = 2, L3_MARKS = 3 };
 
 /* How many message codes are known. */
 enum { L3_KNOWN_CODES = 26 };
@@ -100,6 +100,14 @@ uint32_t l3_sweep(const uint8_t *file, size_t file_len, uint64_t clock, uint32_t
                   const uint8_t *body, size_t body_len, double *azimuths, size_t azimuths_len,
                   uint16_t *codes, size_t codes_len, float *physical, size_t physical_len,
                   int64_t *ints, size_t ints_len, double *floats, size_t floats_len);
+
+/* The same with gaps: a radial that l3_sweep refuses with 22 or 34 gives a row of codes 0 and values NaN, and reading goes on at the next.
+ * A mark for each radial is written to marks: 1 for a gap, 0 for a whole row. All other refusals are those of l3_sweep, in their order; a
+ * marks of fewer places than radials is 36, after the other buffers. */
+uint32_t l3_gaps(const uint8_t *file, size_t file_len, uint64_t clock, uint32_t scheme, float parameter,
+                 const uint8_t *body, size_t body_len, double *azimuths, size_t azimuths_len,
+                 uint16_t *codes, size_t codes_len, float *physical, size_t physical_len, uint8_t *marks, size_t marks_len,
+                 int64_t *ints, size_t ints_len, double *floats, size_t floats_len);
 
 /* A symbology body alone, of any packet. ints[L3_PACKET] to [L3_RANGE_SCALE], floats[L3_GATE_WIDTH] and [L3_FIRST_GATE] and the two
  * buffers as in l3_sweep. */

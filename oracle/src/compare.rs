@@ -27,6 +27,9 @@ pub struct Counts {
     pub kinds: BTreeMap<&'static str, u64>,
     /// Sweeps whose body names the packet.
     pub sweeps: [[Split; 5]; 3],
+    /// Gap readings whose body names the packet, and how many of them gave a gap.
+    pub gaps: [[Split; 5]; 3],
+    pub with_gap: [u64; 3],
     /// Second bodies of demand 3.
     pub damaged: [[Split; 5]; 3],
 }
@@ -77,7 +80,7 @@ impl Compare {
             why.push("the answers differ".to_string());
         }
         why.extend(fault);
-        if let (Some(place), Case::Token { file } | Case::Sweep { file, .. }) = (place, case) {
+        if let (Some(place), Case::Token { file } | Case::Sweep { file, .. } | Case::Gaps { file, .. }) = (place, case) {
             if model::token_place(file) != Some(place) {
                 why.push(format!("the token's place is given as {place}"));
             }
@@ -176,28 +179,58 @@ impl Compare {
     /// Demand 3: an accepted body, and bodies that differ from it in data bytes and unread bytes alone.
     pub fn damage(&mut self, rng: &mut Rng) {
         let case = cases::accepted(rng);
-        let (Answer::Sweep(first), _) = self.both(&case) else { return };
+        let (Answer::Sweep(first), sweep) = self.both(&case) else { return };
+        let marks = first.picture.radials + rng.below(3);
+        self.gaps(&case.clone().with_marks(marks), &sweep);
         let Case::Sweep { clock, scheme, lent, file, body } = case else { return };
         let layout = model::layout(&body);
         for _ in 0..3 {
             let second = damage::damaged(rng, &layout, &body);
-            let want = damage::predicted(&first, &layout, [&body, &second], &file, scheme);
+            let wanted = damage::predicted(&first, &layout, [&body, &second], &file, scheme);
             let case = Case::Sweep { clock, scheme, lent, file: file.clone(), body: second };
-            let (rust, port) = self.both(&case);
-            self.counts.damaged[layout.packet as usize][scheme.index()].count(&want);
-            for (who, answer) in [("rust", &rust), ("port", &port)] {
-                if !want.same(answer) {
-                    self.differs("not the answer that the rows' data make", &case, &[("wanted", &want), (who, answer)]);
+            let sweeps = self.both(&case);
+            self.counts.damaged[layout.packet as usize][scheme.index()].count(&wanted[0]);
+            let with_marks = case.clone().with_marks(marks);
+            let gaps = self.gaps(&with_marks, &sweeps.1);
+            for (want, case, (reference, port)) in [(&wanted[0], &case, &sweeps), (&wanted[1], &with_marks, &gaps)] {
+                for (who, answer) in [("reference", reference), ("port", port)] {
+                    if !want.same(answer) {
+                        self.differs("not the answer that the rows' data make", case, &[("wanted", want), (who, answer)]);
+                    }
                 }
             }
         }
+    }
+
+    /// M-101: a gap reading, and what must hold between it and the port's ordinary reading of the same input.
+    pub fn gaps(&mut self, case: &Case, ordinary: &Answer) -> (Answer, Answer) {
+        let (want, port) = self.both(case);
+        let gap = |r: &Refusal| matches!(r.number, 22 | 34);
+        let holds = match (&port, ordinary) {
+            (Answer::Gaps(with, marks), Answer::Sweep(whole)) => marks.iter().all(|m| *m == 0) && with.same(whole),
+            (Answer::Gaps(_, marks), Answer::Refused(r)) => gap(r) && marks.contains(&1),
+            (Answer::Refused(r), Answer::Sweep(_)) => r.same(&Refusal::new(36, &[3])),
+            (Answer::Refused(with), Answer::Refused(r)) => !gap(with) && (gap(r) || with.same(r)),
+            _ => false,
+        };
+        if !holds {
+            self.differs("not what the ordinary reading lets it be", case, &[("ordinary", ordinary), ("port", &port)]);
+        }
+        (want, port)
+    }
+
+    /// A gap reading and the ordinary one.
+    pub fn both_readings(&mut self, case: &Case) {
+        let (_, ordinary) = self.both(&case.clone().ordinary());
+        self.gaps(case, &ordinary);
     }
 
     /// The case with this number, made from the seed.
     pub fn random(&mut self, seed: u64, number: u64) {
         let rng = &mut Rng::new(seed, number);
         let case = match rng.below(100) {
-            0..=59 => cases::sweep(rng),
+            0..=51 => cases::sweep(rng),
+            52..=59 => return self.both_readings(&cases::gaps(rng)),
             60 => cases::each(rng),
             61 => cases::read(rng),
             62..=71 => cases::symbology(rng),
@@ -268,14 +301,18 @@ impl Counts {
             Some(r) => self.count_refusal(r.number),
             None => self.accepted += 1,
         }
-        if let Case::Sweep { scheme, body, .. } = case {
+        if let Case::Sweep { scheme, body, .. } | Case::Gaps { scheme, body, .. } = case {
             let packet = match body.get(16..18) {
                 Some([0, 16]) => Packet::P16,
                 Some([0xaf, 0x1f]) => Packet::Af1f,
                 Some([0, 28]) => Packet::P28,
                 _ => return,
             };
-            self.sweeps[packet as usize][scheme.index()].count(answer);
+            let table = if matches!(case, Case::Gaps { .. }) { &mut self.gaps } else { &mut self.sweeps };
+            table[packet as usize][scheme.index()].count(answer);
+            if matches!(answer, Answer::Gaps(_, marks) if marks.contains(&1)) {
+                self.with_gap[packet as usize] += 1;
+            }
         }
     }
 
@@ -289,7 +326,7 @@ impl Counts {
             (1..=36).filter(|n| !self.refusals.contains_key(n)).map(|n| format!("refusal {n}")).collect();
         for packet in Packet::ALL {
             for (scheme, name) in Scheme::NAMES.iter().enumerate() {
-                let split = self.sweeps[packet as usize][scheme];
+                let [split, gaps] = [self.sweeps, self.gaps].map(|table| table[packet as usize][scheme]);
                 let fits = match packet {
                     Packet::P16 => scheme != 3,
                     Packet::Af1f => true,
@@ -298,6 +335,12 @@ impl Counts {
                 if (fits && split.accepted == 0) || split.refused == 0 {
                     missing.push(format!("packet {} under {name}", packet.name()));
                 }
+                if fits && gaps.accepted == 0 {
+                    missing.push(format!("a gap reading of packet {} under {name}", packet.name()));
+                }
+            }
+            if packet != Packet::P16 && self.with_gap[packet as usize] == 0 {
+                missing.push(format!("a gap in packet {}", packet.name()));
             }
         }
         missing
@@ -314,6 +357,9 @@ impl Counts {
             println!("  {number:>2} {name:<28} {count:>9}");
         }
         print_table("sweeps by packet and scheme, accepted / refused:", &self.sweeps);
+        print_table("gap readings by packet and scheme, accepted / refused:", &self.gaps);
+        let [_, af1f, generic] = self.with_gap;
+        println!("  with a gap: packet AF1F {af1f}, packet 28 {generic}");
         print_table("damaged bodies (demand 3), accepted / refused:", &self.damaged);
         let missing = self.missing();
         if !missing.is_empty() {

@@ -1,5 +1,5 @@
 //! Demand 3 as a test: damage to the data bytes and the unread bytes of an accepted body, and the answer that follows from
-//! the first answer and the changed rows' own data.
+//! the first answer and the changed rows' own data; M-101's answer to the same body too.
 use crate::make::Rng;
 use crate::model::{self, Layout};
 use lines::{Answer, Packet, Scheme, Sweep};
@@ -55,18 +55,22 @@ fn row(rng: &mut Rng, packet: Packet, data: &mut [u8]) {
     }
 }
 
-/// The answer to the second body, given the first's.
-pub fn predicted(first: &Sweep, layout: &Layout, bodies: [&[u8]; 2], file: &[u8], scheme: Scheme) -> Answer {
+/// The answers to the second body of the ordinary reading and of the gap reading, given the first's.
+pub fn predicted(first: &Sweep, layout: &Layout, bodies: [&[u8]; 2], file: &[u8], scheme: Scheme) -> [Answer; 2] {
     let block = model::header_place(file).expect("an accepted file has a header") + 18;
     let value = model::physical_values(file, block, scheme);
-    let mut second = first.clone();
+    let (mut second, mut marks, mut refused) = (Box::new(first.clone()), vec![0; layout.data.len()], None);
     for (radial, data) in layout.data.iter().enumerate() {
         let [before, after] = bodies.map(|b| &b[data.clone()]);
         if before == after {
             continue;
         }
         match model::row(layout.packet, layout.bins, radial, after) {
-            Err(refusal) => return Answer::Refused(refusal),
+            Err(refusal) => {
+                refused.get_or_insert(refusal);
+                model::make_gap(&mut second, radial);
+                marks[radial] = 1;
+            }
             Ok(codes) => {
                 let cells = radial * layout.bins..(radial + 1) * layout.bins;
                 let physical: Vec<f32> = codes.iter().map(|c| value(*c)).collect();
@@ -75,5 +79,9 @@ pub fn predicted(first: &Sweep, layout: &Layout, bodies: [&[u8]; 2], file: &[u8]
             }
         }
     }
-    Answer::Sweep(Box::new(second))
+    let ordinary = match refused {
+        Some(refusal) => Answer::Refused(refusal),
+        None => Answer::Sweep(second.clone()),
+    };
+    [ordinary, Answer::Gaps(second, marks)]
 }

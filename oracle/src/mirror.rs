@@ -45,6 +45,13 @@ slips! {
     OneValueMore,
     MovesOnAfterRefusal,
     ReadShortAtEnd,
+    GapMarkedWhole,
+    GapValuedAsCode0,
+    EndsAtFirstGap,
+    GapKeepsFirstCells,
+    GapBeforeLaterRefusal,
+    MarksBeforePhysical,
+    OneMarkMore,
 }
 
 /// 1 + the slip's place in `SLIPS`, or 0.
@@ -63,6 +70,7 @@ fn slips(slip: Slip) -> bool {
 pub fn entries() -> Entries {
     Entries {
         sweep,
+        gaps,
         symbology,
         token,
         message_header,
@@ -153,7 +161,10 @@ unsafe fn bytes(pointer: *const u8, len: usize) -> Vec<u8> {
 
 /// The Rust's answer with what document 02 alters, and 3 where the Rust would overflow.
 fn answer(case: &Case) -> Answer {
-    let given = if slips(CentreNotWrapped) { radish::answer(case) } else { crate::wanted::answer(case) };
+    let given = match case {
+        Case::Sweep { .. } | Case::Sym { .. } if slips(CentreNotWrapped) => radish::answer(case),
+        _ => crate::wanted::answer(case),
+    };
     match given {
         Answer::Panic => Answer::Refused(Refusal::new(3, &[first_field(case)])),
         answer => answer,
@@ -185,58 +196,104 @@ unsafe fn reported(
     }
 }
 
-unsafe extern "C" fn sweep(
-    file: *const u8,
-    file_len: usize,
-    clock: u64,
-    scheme: u32,
-    parameter: f32,
-    body: *const u8,
-    body_len: usize,
-    azimuths: *mut f64,
-    azimuths_len: usize,
-    codes: *mut u16,
-    codes_len: usize,
-    physical: *mut f32,
-    physical_len: usize,
-    ints: *mut i64,
-    ints_len: usize,
-    floats: *mut f64,
-    floats_len: usize,
-) -> u32 {
-    let Some(mut report) = report(ints, ints_len, floats, floats_len) else { return SHORT_REPORT };
+/// Bytes, a clock, a scheme and its parameter, and bytes: what a sweep is read from.
+type Input = ((*const u8, usize), u64, (u32, f32), (*const u8, usize));
+
+/// Where a picture goes, and its marks in the gap reading.
+struct Places<'a> {
+    azimuths: &'a mut [f64],
+    codes: &'a mut [u16],
+    physical: &'a mut [f32],
+    marks: Option<&'a mut [u8]>,
+}
+
+/// An entry that reads a sweep, with or without marks.
+macro_rules! sweep_entry {
+    ($name:ident($($marks:ident, $marks_len:ident)?)) => {
+        unsafe extern "C" fn $name(
+            file: *const u8,
+            file_len: usize,
+            clock: u64,
+            scheme: u32,
+            parameter: f32,
+            body: *const u8,
+            body_len: usize,
+            azimuths: *mut f64,
+            azimuths_len: usize,
+            codes: *mut u16,
+            codes_len: usize,
+            physical: *mut f32,
+            physical_len: usize,
+            $($marks: *mut u8, $marks_len: usize,)?
+            ints: *mut i64,
+            ints_len: usize,
+            floats: *mut f64,
+            floats_len: usize,
+        ) -> u32 {
+            let places = Places {
+                azimuths: from_raw_parts_mut(azimuths, azimuths_len),
+                codes: from_raw_parts_mut(codes, codes_len),
+                physical: from_raw_parts_mut(physical, physical_len),
+                marks: [$(from_raw_parts_mut($marks, $marks_len))?].into_iter().next(),
+            };
+            let input = ((file, file_len), clock, (scheme, parameter), (body, body_len));
+            reading(input, places, report(ints, ints_len, floats, floats_len))
+        }
+    };
+}
+
+sweep_entry!(sweep());
+sweep_entry!(gaps(marks, marks_len));
+
+unsafe fn reading(input: Input, mut places: Places, report: Option<Report>) -> u32 {
+    let Some(mut report) = report else { return SHORT_REPORT };
+    let ((file, file_len), clock, (scheme, parameter), (body, body_len)) = input;
     let Some(scheme) = Scheme::of(scheme as usize, parameter) else { return BAD_ARGUMENT };
-    let lent = Lent { azimuths: azimuths_len, codes: codes_len, physical: physical_len };
+    let lent = Lent { azimuths: places.azimuths.len(), codes: places.codes.len(), physical: places.physical.len() };
     let (file, body) = (bytes(file, file_len), bytes(body, body_len));
     let place = model::token_place(&file);
     let case = Case::Sweep { clock: clock.into(), scheme, lent, file, body };
-    let azimuths = from_raw_parts_mut(azimuths, azimuths_len);
-    let codes = from_raw_parts_mut(codes, codes_len);
-    let physical = from_raw_parts_mut(physical, physical_len);
+    let case = match &places.marks {
+        None => case,
+        Some(marks) => case.with_marks(marks.len()),
+    };
     match slipped(&case, answer(&case)) {
         Answer::Refused(r) => {
-            if slips(RefusalWrites) && matches!(r.number, 22 | 34) && !codes.is_empty() {
-                codes[0] = 1;
+            if slips(RefusalWrites) && matches!(r.number, 22 | 34) && !places.codes.is_empty() {
+                places.codes[0] = 1;
             }
             report.refuse(&r)
         }
         Answer::Sweep(s) => {
-            report.fields(&s.fields);
-            report.picture(&s.picture);
-            report.ints[0] = place.map_or(-1, |p| p as i64);
-            report.ints[5] = s.time;
-            report.ints[10] = s.scale.is_some() as i64;
-            if let Some(scale) = s.scale {
-                report.ints[11..13].copy_from_slice(&[scale.levels.into(), scale.floor.into()]);
-                report.floats[6..8].copy_from_slice(&[scale.minimum.into(), scale.step.into()]);
-            }
-            write(&s.picture, azimuths, codes);
-            if !slips(NothingWritten) {
-                physical[..s.physical.len()].copy_from_slice(&s.physical);
+            accept(&s, place, &mut places, &mut report);
+            0
+        }
+        Answer::Gaps(s, marks) => {
+            accept(&s, place, &mut places, &mut report);
+            let lent = places.marks.unwrap();
+            lent[..marks.len()].copy_from_slice(&marks);
+            if slips(OneMarkMore) && lent.len() > marks.len() {
+                lent[marks.len()] = 0;
             }
             0
         }
         _ => unreachable!(),
+    }
+}
+
+fn accept(s: &Sweep, place: Option<usize>, places: &mut Places, report: &mut Report) {
+    report.fields(&s.fields);
+    report.picture(&s.picture);
+    report.ints[0] = place.map_or(-1, |p| p as i64);
+    report.ints[5] = s.time;
+    report.ints[10] = s.scale.is_some() as i64;
+    if let Some(scale) = s.scale {
+        report.ints[11..13].copy_from_slice(&[scale.levels.into(), scale.floor.into()]);
+        report.floats[6..8].copy_from_slice(&[scale.minimum.into(), scale.step.into()]);
+    }
+    write(&s.picture, places.azimuths, places.codes);
+    if !slips(NothingWritten) {
+        places.physical[..s.physical.len()].copy_from_slice(&s.physical);
     }
 }
 
@@ -629,6 +686,7 @@ fn slipped(case: &Case, answer: Answer) -> Answer {
         return answer;
     }
     let (body, lent, scheme) = match case {
+        Case::Gaps { .. } => return slipped_gaps(case, answer),
         Case::Sweep { body, lent, scheme, .. } => (body, Some(*lent), Some(*scheme)),
         Case::Sym { body } => (body, None, None),
         _ => return answer,
@@ -647,6 +705,53 @@ fn slipped(case: &Case, answer: Answer) -> Answer {
             Answer::Sweep(s)
         }
         refused => refused,
+    }
+}
+
+fn slipped_gaps(case: &Case, answer: Answer) -> Answer {
+    let Case::Gaps { scheme, marks, file, body, .. } = case else { return answer };
+    let (mut s, mut marks) = match answer {
+        Answer::Gaps(s, marks) => (s, marks),
+        Answer::Refused(r) if slips(MarksBeforePhysical) && r.number == 36 && *marks < model::layout(body).data.len() => {
+            return Answer::Refused(Refusal::new(36, &[3]));
+        }
+        Answer::Refused(r) if slips(GapBeforeLaterRefusal) && matches!(r.number, 19..=21 | 31 | 32 | 35) => {
+            return match crate::wanted::answer(&case.clone().ordinary()) {
+                Answer::Refused(first) if matches!(first.number, 22 | 34) => Answer::Refused(first),
+                _ => Answer::Refused(r),
+            };
+        }
+        other => return other,
+    };
+    let value = model::physical_values(file, model::header_place(file).unwrap() + 18, *scheme);
+    let (layout, bins) = (model::layout(body), s.picture.bins);
+    if let (true, Some(first)) = (slips(EndsAtFirstGap), marks.iter().position(|m| *m == 1)) {
+        marks[first..].fill(1);
+        (first..marks.len()).for_each(|radial| model::make_gap(&mut s, radial));
+    }
+    for radial in (0..marks.len()).filter(|r| marks[*r] == 1) {
+        let cells = radial * bins..(radial + 1) * bins;
+        if slips(GapValuedAsCode0) {
+            s.physical[cells.clone()].fill(value(0));
+        }
+        if slips(GapKeepsFirstCells) {
+            let data = &body[layout.data[radial].clone()];
+            for (to, code) in s.picture.codes[cells].iter_mut().zip(first_cells(layout.packet, data)) {
+                *to = code;
+            }
+        }
+    }
+    if slips(GapMarkedWhole) {
+        marks.fill(0);
+    }
+    Answer::Gaps(s, marks)
+}
+
+/// What data that make no row begin with.
+fn first_cells(packet: Packet, data: &[u8]) -> Vec<u16> {
+    match packet {
+        Packet::P28 => data.chunks(4).map_while(|w| u16::try_from(i32::from_be_bytes(w.try_into().unwrap())).ok()).collect(),
+        _ => data.iter().flat_map(|b| std::iter::repeat_n((b & 15) as u16, (b >> 4) as usize)).collect(),
     }
 }
 

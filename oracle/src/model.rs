@@ -1,7 +1,7 @@
 //! Document 01's sentences once more, worked out here without the Rust and without the port: where the token, the message
-//! header and the fields stand, what a code's physical value is, where the radials of an accepted body stand, which of its
-//! bytes are data or unread, and what row a radial's data make.
-use lines::{Packet, Refusal, Scheme};
+//! header and the fields stand, what a code's physical value is, where a body's radials stand, which of its bytes are data or
+//! unread, and what row a radial's data make or that they make none; and of document 02 the centres and the gaps.
+use lines::{Packet, Refusal, Scheme, Sweep};
 use std::ops::Range;
 
 /// The codes of the products.
@@ -96,7 +96,7 @@ fn level(flag: u8, value: u8, post_scale: f32) -> f32 {
     value as f32 * sign * scale * post_scale
 }
 
-/// An accepted body: where each radial's data stand, and its unread bytes.
+/// Where each radial's data stand and, of an accepted body, its unread bytes.
 pub struct Layout {
     pub packet: Packet,
     pub bins: usize,
@@ -112,6 +112,7 @@ fn u32_at(body: &[u8], at: usize) -> usize {
     u32::from_be_bytes(body[at..at + 4].try_into().unwrap()) as usize
 }
 
+/// The layout of an accepted body, or of one that is refused at a radial or later: then the radials from the first on that are there.
 pub fn layout(body: &[u8]) -> Layout {
     match u16_at(body, 16) {
         16 => radial_layout(body, Packet::P16),
@@ -128,7 +129,13 @@ fn radial_layout(body: &[u8], packet: Packet) -> Layout {
     let mut data = vec![];
     let mut at = 30;
     for _ in 0..u16_at(body, 28) {
+        if at + 6 > body.len() {
+            break;
+        }
         let count = u16_at(body, at) * if packet == Packet::Af1f { 2 } else { 1 };
+        if at + 6 + count > body.len() {
+            break;
+        }
         data.push(at + 6..at + 6 + count);
         at += 6 + count;
     }
@@ -142,72 +149,97 @@ pub fn centres(body: &[u8]) -> Vec<f64> {
     prefixes.map(|prefix| ((2 * u16_at(prefix, 2) + u16_at(prefix, 4)) % 7200) as f64 / 20.0).collect()
 }
 
-/// A walk over the items of a packet 28 payload.
+/// A walk over the items of a packet 28 payload, to the first that is not there.
 struct Items<'a> {
+    /// Up to the payload's end.
     body: &'a [u8],
     at: usize,
-    unread: Vec<Range<usize>>,
+    layout: Layout,
 }
 
 impl Items<'_> {
+    fn words(&mut self, count: usize) -> Option<Range<usize>> {
+        let range = self.at..self.at + 4 * count;
+        self.body.get(range.clone())?;
+        self.at = range.end;
+        Some(range)
+    }
+
     /// A number that is read: a length, a count, the component's type, gate figures, an azimuth, a width.
-    fn word(&mut self) -> usize {
-        self.at += 4;
-        u32_at(self.body, self.at - 4)
+    fn word(&mut self) -> Option<usize> {
+        self.words(1).map(|range| u32_at(self.body, range.start))
     }
 
-    fn unread_words(&mut self, words: usize) {
-        self.unread.push(self.at..self.at + 4 * words);
-        self.at += 4 * words;
+    fn unread_words(&mut self, count: usize) -> Option<()> {
+        let range = self.words(count)?;
+        self.layout.unread.push(range);
+        Some(())
     }
 
-    fn string(&mut self) {
-        let len = self.word();
-        self.unread_words(len.div_ceil(4));
+    fn string(&mut self) -> Option<()> {
+        let len = self.word()?;
+        self.unread_words(len.div_ceil(4))
     }
 
-    fn parameters(&mut self) {
-        let count = (self.word() as u32 as i32).max(0);
-        self.unread_words(1);
+    /// A list: its count, a pointer, and the elements with a pointer between them.
+    fn list(&mut self, element: fn(&mut Self) -> Option<()>) -> Option<()> {
+        let count = (self.word()? as u32 as i32).max(0);
+        self.unread_words(1)?;
         for i in 0..count {
-            self.string();
-            self.string();
+            element(self)?;
             if i + 1 < count {
-                self.unread_words(1);
+                self.unread_words(1)?;
             }
         }
+        Some(())
+    }
+
+    fn parameters(&mut self) -> Option<()> {
+        self.list(|items| {
+            items.string()?;
+            items.string()
+        })
+    }
+
+    fn product(&mut self) -> Option<()> {
+        self.string()?; // name
+        self.string()?; // description
+        self.unread_words(3)?; // code, type, time
+        self.string()?; // radar
+        self.unread_words(12)?; // from latitude to the size before packing
+        self.parameters()?;
+        self.list(Items::component)
+    }
+
+    fn component(&mut self) -> Option<()> {
+        if self.word()? != 1 {
+            return None; // no radial follows
+        }
+        self.string()?; // description
+        self.word()?; // gate width
+        self.word()?; // first gate
+        self.parameters()?;
+        for _ in 0..self.word()? {
+            self.word()?; // azimuth
+            self.unread_words(1)?; // elevation
+            self.word()?; // width
+            self.layout.bins = self.word()?;
+            self.string()?; // attributes
+            let count = self.word()?;
+            let data = self.words(count)?;
+            self.layout.data.push(data);
+        }
+        Some(())
     }
 }
 
 fn generic_layout(body: &[u8]) -> Layout {
     let end = 24 + u32_at(body, 20);
-    let mut items = Items { body, at: 24, unread: vec![4..16, 18..20, end..body.len()] };
-    items.string(); // name
-    items.string(); // description
-    items.unread_words(3); // code, type, time
-    items.string(); // radar
-    items.unread_words(12); // from latitude to the size before packing
-    items.parameters();
-    items.word(); // one component
-    items.unread_words(1);
-    items.word(); // its type
-    items.string(); // description
-    items.word(); // gate width
-    items.word(); // first gate
-    items.parameters();
-    let radials = items.word();
-    let (mut bins, mut data) = (0, vec![]);
-    for _ in 0..radials {
-        items.word(); // azimuth
-        items.unread_words(1); // elevation
-        items.word(); // width
-        bins = items.word();
-        items.string(); // attributes
-        let count = items.word();
-        data.push(items.at..items.at + 4 * count);
-        items.at += 4 * count;
-    }
-    Layout { packet: Packet::P28, bins, data, unread: items.unread }
+    let layout = Layout { packet: Packet::P28, bins: 0, data: vec![], unread: vec![4..16, 18..20, end..body.len()] };
+    let mut items = Items { body: &body[..end], at: 24, layout };
+    // of an accepted body all is there
+    items.product();
+    items.layout
 }
 
 /// The row that a radial's data make, or the refusal that names the radial.
@@ -234,4 +266,35 @@ pub fn row(packet: Packet, bins: usize, radial: usize, data: &[u8]) -> Result<Ve
             codes.collect::<Result<_, _>>().map_err(|(gate, n)| Refusal::new(34, &[radial as i128, gate as i128, n as i128]))
         }
     }
+}
+
+/// Document 02, M-101: the body with a row where a radial's data make none, all else as it was, and which radials these are. In AF1F
+/// the count and what it covers become runs of n_bins cells; in packet 28 the integers that are no codes become 0. The head and, in
+/// packet 28, the payload's length must have passed.
+pub fn mended(body: &[u8]) -> (Vec<u8>, Vec<usize>) {
+    let Layout { packet, bins, data, .. } = layout(body);
+    let gaps: Vec<usize> =
+        (0..data.len()).filter(|radial| row(packet, bins, *radial, &body[data[*radial].clone()]).is_err()).collect();
+    let mut mended = body.to_vec();
+    // from the last on: the places before a radial stay
+    for data in gaps.iter().rev().map(|radial| data[*radial].clone()) {
+        if packet == Packet::Af1f {
+            let mut runs = vec![0xf0; bins / 15];
+            runs.push((bins % 15 * 16) as u8);
+            runs.resize(runs.len().next_multiple_of(2), 0);
+            mended[data.start - 6..data.start - 4].copy_from_slice(&(runs.len() as u16 / 2).to_be_bytes());
+            mended.splice(data, runs);
+        } else {
+            mended[data].chunks_mut(4).filter(|word| word[..2] != [0, 0]).for_each(|word| word.fill(0));
+        }
+    }
+    (mended, gaps)
+}
+
+/// A gap's row: code 0, and NaN whatever value code 0 has.
+pub fn make_gap(sweep: &mut Sweep, radial: usize) {
+    let bins = sweep.picture.bins;
+    let cells = radial * bins..(radial + 1) * bins;
+    sweep.picture.codes[cells.clone()].fill(0);
+    sweep.physical[cells].fill(f32::NAN);
 }

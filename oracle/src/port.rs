@@ -10,16 +10,17 @@
 //! | l3_token, l3_message_header | 0 place | |
 //! | l3_scan_time | 0 time | |
 //! | l3_field | 0 value | 0, 1 the pair |
-//! | l3_pdb, l3_sweep | 0 token's place (0 in l3_pdb), 1 product code, 2 vcp, 3 days, 4 seconds, 5 time (0 in l3_pdb) | 0-3 latitude, longitude, height, elevation |
-//! | l3_symbology, l3_sweep | 6 packet (16, 44831 for AF1F, 28), 7 radials, 8 bins, 9 range scale or 0 | 4, 5 gate width, first gate or 0 |
-//! | l3_sweep | 10 whether a scale is declared, 11 level count, 12 floor | 6, 7 minimum, step |
+//! | l3_pdb, l3_sweep, l3_gaps | 0 token's place (0 in l3_pdb), 1 product code, 2 vcp, 3 days, 4 seconds, 5 time (0 in l3_pdb) | 0-3 latitude, longitude, height, elevation |
+//! | l3_symbology, l3_sweep, l3_gaps | 6 packet (16, 44831 for AF1F, 28), 7 radials, 8 bins, 9 range scale or 0 | 4, 5 gate width, first gate or 0 |
+//! | l3_sweep, l3_gaps | 10 whether a scale is declared, 11 level count, 12 floor | 6, 7 minimum, step |
 //! | l3_linear, l3_float | 11 level count | 6, 7 minimum, step |
 //! | l3_precip | 12 floor, 13 ceiling or -1 | 6, 7 minimum, step |
 //! | l3_xdr, l3_items | 0 value, or 0 start and 1 length; 15 the position after the read, also on a refusal (item 7: 0 the bytes left, no position) | 0 value |
 //! | l3_read | 0 whether the number is there, 1 the number | |
 use crate::fence::Fence;
 use lines::{
-    Answer, Case, Each, FieldKind, Fields, Geometry, Item, Lent, Packet, Picture, Refusal, Scale, Scheme, Sweep, EACH,
+    Answer, Case, Each, FieldKind, Fields, Geometry, Item, Lent, Packet, Picture, Refusal, Scale, Scheme, Sweep, BUFFERS,
+    EACH,
 };
 
 macro_rules! entries {
@@ -50,6 +51,11 @@ entries! {
         file: *const u8, file_len: usize, clock: u64, scheme: u32, parameter: f32, body: *const u8, body_len: usize,
         azimuths: *mut f64, azimuths_len: usize, codes: *mut u16, codes_len: usize, physical: *mut f32, physical_len: usize,
         ints: *mut i64, ints_len: usize, floats: *mut f64, floats_len: usize,
+    );
+    gaps: l3_gaps(
+        file: *const u8, file_len: usize, clock: u64, scheme: u32, parameter: f32, body: *const u8, body_len: usize,
+        azimuths: *mut f64, azimuths_len: usize, codes: *mut u16, codes_len: usize, physical: *mut f32, physical_len: usize,
+        marks: *mut u8, marks_len: usize, ints: *mut i64, ints_len: usize, floats: *mut f64, floats_len: usize,
     );
     symbology: l3_symbology(
         body: *const u8, body_len: usize, azimuths: *mut f64, azimuths_len: usize, codes: *mut u16, codes_len: usize,
@@ -185,6 +191,7 @@ pub struct Port {
     azimuths: Buffer<u64>,
     codes: Buffer<u16>,
     physical: Buffer<u32>,
+    marks: Buffer<u8>,
     ints: [i64; INTS + GUARD],
     floats: [f64; FLOATS + GUARD],
     fault: Option<String>,
@@ -200,6 +207,7 @@ impl Port {
             azimuths: Buffer::new(),
             codes: Buffer::new(),
             physical: Buffer::new(),
+            marks: Buffer::new(),
             ints: [0; INTS + GUARD],
             floats: [0.0; FLOATS + GUARD],
             fault: None,
@@ -211,7 +219,10 @@ impl Port {
     pub fn run(&mut self, case: &Case, lent: Lent) -> Outcome {
         (self.fault, self.place) = (None, None);
         let answer = match case {
-            Case::Sweep { clock, scheme, lent, file, body } => self.sweep(*clock, *scheme, *lent, file, body),
+            Case::Sweep { clock, scheme, lent, file, body } => self.sweep(*clock, *scheme, (*lent, None), file, body),
+            Case::Gaps { clock, scheme, lent, marks, file, body } => {
+                self.sweep(*clock, *scheme, (*lent, Some(*marks)), file, body)
+            }
             Case::Sym { body } => self.symbology(body, lent),
             Case::Token { file } => self.token(file),
             Case::Mhb { file } => self.message_header(file),
@@ -308,7 +319,7 @@ impl Port {
         let refused = self.call_physical(file, block, scheme, codes, (INTS, FLOATS));
         self.check_report();
         let written = if refused == 0 { codes.len().min(lent) } else { 0 };
-        self.check_kept(0, 0, written);
+        self.check_kept([0, 0, written, 0]);
         if refused != 0 {
             return Err(self.refusal(refused));
         }
@@ -337,8 +348,10 @@ impl Port {
         asked.push(("l3_token with more than 16 ints and 8 floats".into(), number == 0 && self.ints[0] == 0));
         for scheme in [5, 6, 255, u32::MAX] {
             self.lend(Lent { azimuths: 4, codes: 4, physical: 4 });
-            let number = self.call_sweep(&[], 0, (scheme, 0.0), &[], (INTS, FLOATS));
-            asked.push((format!("l3_sweep with scheme {scheme}"), number == BAD_ARGUMENT && self.buffers_untouched()));
+            for (name, gaps) in [("l3_sweep", false), ("l3_gaps", true)] {
+                let number = self.call_sweep(gaps, &[], (0, scheme, 0.0), &[], (INTS, FLOATS));
+                asked.push((format!("{name} with scheme {scheme}"), number == BAD_ARGUMENT && self.buffers_untouched()));
+            }
             let number = self.call_physical(&[], 0, (scheme, 0.0), &[1, 2], (INTS, FLOATS));
             let untouched = self.report_untouched() && self.buffers_untouched();
             asked.push((format!("l3_physical with scheme {scheme}"), number == BAD_ARGUMENT && untouched));
@@ -373,7 +386,7 @@ impl Port {
     fn short_reports(&mut self, ints: usize, floats: usize) -> Vec<(&'static str, u32)> {
         let e = self.entries;
         self.lend(Lent { azimuths: 4, codes: 4, physical: 4 });
-        let sweep = self.call_sweep(&[], 0, (4, 0.0), &[], (ints, floats));
+        let [sweep, gaps] = [false, true].map(|gaps| self.call_sweep(gaps, &[], (0, 4, 0.0), &[], (ints, floats)));
         let symbology = self.call_symbology(&[], (ints, floats));
         let physical = self.call_physical(&[], 0, (4, 0.0), &[1, 2], (ints, floats));
         let (i, f) = (self.ints.as_mut_ptr(), self.floats.as_mut_ptr());
@@ -382,6 +395,7 @@ impl Port {
         unsafe {
             vec![
                 ("l3_sweep", sweep),
+                ("l3_gaps", gaps),
                 ("l3_symbology", symbology),
                 ("l3_physical", physical),
                 ("l3_token", (e.token)(bytes, 6, i, ints, f, floats)),
@@ -401,13 +415,16 @@ impl Port {
         }
     }
 
-    fn sweep(&mut self, clock: i128, scheme: Scheme, lent: Lent, file: &[u8], body: &[u8]) -> Answer {
+    /// The sweep reading, or the gap reading where marks are lent.
+    fn sweep(&mut self, clock: i128, scheme: Scheme, lent: (Lent, Option<usize>), file: &[u8], body: &[u8]) -> Answer {
+        let (lent, marks) = lent;
         self.lend(lent);
-        let scheme = (scheme.index() as u32, scheme.parameter());
-        let refused = self.call_sweep(file, u64_clock(clock), scheme, body, (INTS, FLOATS));
+        self.marks.lend(marks.unwrap_or(0).min(Lent::MOST.azimuths), pattern8);
+        let by = (u64_clock(clock), scheme.index() as u32, scheme.parameter());
+        let refused = self.call_sweep(marks.is_some(), file, by, body, (INTS, FLOATS));
         self.check_report();
         if refused != 0 {
-            self.check_kept(0, 0, 0);
+            self.check_kept([0; 4]);
             return Answer::Refused(self.refusal(refused));
         }
         let Some(picture) = self.picture() else { return Answer::Accepted };
@@ -416,7 +433,12 @@ impl Port {
             self.found(format!("accepted {cells} cells with {} places lent for physical values", self.physical.lent));
             return Answer::Accepted;
         }
-        self.check_kept(picture.radials, cells, cells);
+        let marked = if marks.is_some() { picture.radials } else { 0 };
+        if marked > self.marks.lent {
+            self.found(format!("accepted {marked} radials with {} marks lent", self.marks.lent));
+            return Answer::Accepted;
+        }
+        self.check_kept([picture.radials, cells, cells, marked]);
         let physical = self.physical.memory[..cells].iter().map(|b| f32::from_bits(*b)).collect();
         let scale = match self.ints[10] {
             0 => None,
@@ -429,7 +451,11 @@ impl Port {
             }
         };
         let (token, fields, time) = (self.token_at(file), self.fields(), self.ints[5]);
-        Answer::Sweep(Box::new(Sweep { token, fields, time, scale, picture, physical }))
+        let sweep = Box::new(Sweep { token, fields, time, scale, picture, physical });
+        match marks {
+            None => Answer::Sweep(sweep),
+            Some(_) => Answer::Gaps(sweep, self.marks.memory[..marked].to_vec()),
+        }
     }
 
     fn symbology(&mut self, body: &[u8], lent: Lent) -> Answer {
@@ -437,11 +463,11 @@ impl Port {
         let refused = self.call_symbology(body, (INTS, FLOATS));
         self.check_report();
         if refused != 0 {
-            self.check_kept(0, 0, 0);
+            self.check_kept([0; 4]);
             return Answer::Refused(self.refusal(refused));
         }
         let Some(picture) = self.picture() else { return Answer::Accepted };
-        self.check_kept(picture.radials, picture.radials * picture.bins, 0);
+        self.check_kept([picture.radials, picture.radials * picture.bins, 0, 0]);
         Answer::Picture(Box::new(picture))
     }
 
@@ -626,28 +652,39 @@ impl Port {
         accepted(self)
     }
 
-    fn call_sweep(&mut self, file: &[u8], clock: u64, scheme: (u32, f32), body: &[u8], report: (usize, usize)) -> u32 {
+    /// The sweep reading or the gap reading, by a clock, a scheme and its parameter.
+    fn call_sweep(&mut self, gaps: bool, file: &[u8], by: (u64, u32, f32), body: &[u8], report: (usize, usize)) -> u32 {
         let (file_at, body_at) = (self.file.place(file), self.body.place(body));
+        macro_rules! call {
+            ($entry:ident $(, $marks:expr)*) => {
+                (self.entries.$entry)(
+                    file_at,
+                    file.len(),
+                    by.0,
+                    by.1,
+                    by.2,
+                    body_at,
+                    body.len(),
+                    self.azimuths.memory.as_mut_ptr() as *mut f64,
+                    self.azimuths.lent,
+                    self.codes.memory.as_mut_ptr(),
+                    self.codes.lent,
+                    self.physical.memory.as_mut_ptr() as *mut f32,
+                    self.physical.lent,
+                    $($marks,)*
+                    self.ints.as_mut_ptr(),
+                    report.0,
+                    self.floats.as_mut_ptr(),
+                    report.1,
+                )
+            };
+        }
         unsafe {
-            (self.entries.sweep)(
-                file_at,
-                file.len(),
-                clock,
-                scheme.0,
-                scheme.1,
-                body_at,
-                body.len(),
-                self.azimuths.memory.as_mut_ptr() as *mut f64,
-                self.azimuths.lent,
-                self.codes.memory.as_mut_ptr(),
-                self.codes.lent,
-                self.physical.memory.as_mut_ptr() as *mut f32,
-                self.physical.lent,
-                self.ints.as_mut_ptr(),
-                report.0,
-                self.floats.as_mut_ptr(),
-                report.1,
-            )
+            if gaps {
+                call!(gaps, self.marks.memory.as_mut_ptr(), self.marks.lent)
+            } else {
+                call!(sweep)
+            }
         }
     }
 
@@ -705,6 +742,7 @@ impl Port {
         self.azimuths.lend(lent.azimuths, pattern64);
         self.codes.lend(lent.codes, pattern16);
         self.physical.lend(lent.physical, pattern32);
+        self.marks.lend(0, pattern8);
         self.prepare();
     }
 
@@ -728,17 +766,22 @@ impl Port {
     }
 
     fn buffers_untouched(&self) -> bool {
-        self.azimuths.touched(0).is_none() && self.codes.touched(0).is_none() && self.physical.touched(0).is_none()
+        self.touched([0; 4]).iter().all(Option::is_none)
+    }
+
+    /// The first place of each buffer from the given one on that does not hold what it held before.
+    fn touched(&self, [azimuths, codes, physical, marks]: [usize; 4]) -> [Option<usize>; 4] {
+        [
+            self.azimuths.touched(azimuths),
+            self.codes.touched(codes),
+            self.physical.touched(physical),
+            self.marks.touched(marks),
+        ]
     }
 
     /// The places from the given ones on must hold what they held before.
-    fn check_kept(&mut self, azimuths: usize, codes: usize, physical: usize) {
-        let touched = [
-            ("azimuths", self.azimuths.touched(azimuths)),
-            ("codes", self.codes.touched(codes)),
-            ("physical", self.physical.touched(physical)),
-        ];
-        for (name, at) in touched {
+    fn check_kept(&mut self, from: [usize; 4]) {
+        for (name, at) in BUFFERS.into_iter().zip(self.touched(from)) {
             if let Some(at) = at {
                 self.found(format!("place {at} of {name}, which must be kept, was written"));
             }
@@ -875,6 +918,7 @@ pub struct Timed<'a> {
     azimuths: Vec<f64>,
     codes: Vec<u16>,
     physical: Vec<f32>,
+    marks: Vec<u8>,
     ints: [i64; INTS],
     floats: [f64; FLOATS],
 }
@@ -890,6 +934,7 @@ impl<'a> Timed<'a> {
             azimuths: vec![0.0; lent.azimuths],
             codes: vec![0; lent.codes],
             physical: vec![0.0; lent.physical],
+            marks: vec![0; lent.azimuths],
             ints: [0; INTS],
             floats: [0.0; FLOATS],
         }
@@ -919,6 +964,32 @@ impl<'a> Timed<'a> {
         }
     }
 
+    pub fn gaps(&mut self) -> u32 {
+        unsafe {
+            (self.entries.gaps)(
+                self.file.as_ptr(),
+                self.file.len(),
+                self.clock,
+                self.scheme.index() as u32,
+                self.scheme.parameter(),
+                self.body.as_ptr(),
+                self.body.len(),
+                self.azimuths.as_mut_ptr(),
+                self.azimuths.len(),
+                self.codes.as_mut_ptr(),
+                self.codes.len(),
+                self.physical.as_mut_ptr(),
+                self.physical.len(),
+                self.marks.as_mut_ptr(),
+                self.marks.len(),
+                self.ints.as_mut_ptr(),
+                INTS,
+                self.floats.as_mut_ptr(),
+                FLOATS,
+            )
+        }
+    }
+
     pub fn symbology(&mut self) -> u32 {
         unsafe {
             (self.entries.symbology)(
@@ -939,6 +1010,10 @@ impl<'a> Timed<'a> {
 
 const KEPT_INTS: [i64; INTS + GUARD] = [-0x5a5a_5a5a_5a5a_5a5b; INTS + GUARD];
 const KEPT_FLOATS: [f64; FLOATS + GUARD] = [-6.25e77; FLOATS + GUARD];
+
+fn pattern8(i: usize) -> u8 {
+    0xa4 ^ (i % 16) as u8
+}
 
 fn pattern16(i: usize) -> u16 {
     0xa5c3 ^ i as u16

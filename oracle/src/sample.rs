@@ -2,6 +2,7 @@
 //! under every scheme.
 use crate::compare::Counts;
 use crate::make::{cases, Rng};
+use crate::wanted;
 use lines::{Case, FieldKind, Lent, Packet, Scheme};
 use std::collections::HashMap;
 
@@ -166,6 +167,11 @@ impl List {
     fn sweep(&mut self, name: &str, clock: i128, scheme: Scheme, file: Vec<u8>, body: Vec<u8>) {
         let lent = Lent { azimuths: 10, codes: 64, physical: 64 };
         self.add(name, Case::Sweep { clock, scheme, lent, file, body });
+    }
+
+    fn gaps(&mut self, name: &str, scheme: Scheme, file: Vec<u8>, body: Vec<u8>) {
+        let lent = Lent { azimuths: 10, codes: 64, physical: 64 };
+        self.add(&format!("gaps_{name}"), Case::Gaps { clock: CLOCK, scheme, lent, marks: 10, file, body });
     }
 
     fn class(&mut self, name: &str, body: Vec<u8>) {
@@ -440,6 +446,63 @@ fn buffers(list: &mut List) {
     list.add("walk_before_lent", sweep(Scheme::Class, class(), af1f(5, &[(1, 0, 10, &[0x11, 0])])));
 }
 
+/// M-101, the last lines of the list.
+pub fn gaps() -> Vec<(String, Case)> {
+    let mut list = List(vec![]);
+    let (whole, short): (&[u8], &[u8]) = (&[0x31, 0x25], &[0x31, 0x35]);
+    let rays = |levels: [&'static [i32]; 3]| p28(&levels.map(|row| Ray(10.0, 1.0, 3, row)));
+    let (good, bad): (&[i32], &[i32]) = (&[5, 0, 65_535], &[5, 65_536, 7]);
+    let runs = |rows: [&[u8]; 3]| af1f(5, &rows.map(|data| (data.len() as u16 / 2, 3599, 10, data)));
+    let bytes = p16(2, &[(3, 0, 10, &[7, 9, 0]), (2, 3599, 10, &[0, 255])]);
+    for (name, scheme, file) in [
+        ("halfword", Scheme::Halfword, halfword(-320, 5, 254)),
+        ("float", Scheme::Float, float(16.0, 128.0)),
+        ("precip", Scheme::Precip(0.254), precip(10.0, 1.0, [250, 1, 2])),
+        ("floor_0", Scheme::Precip(25.4), precip(10.0, 1.0, [255, 0, 2])),
+        ("legacy", Scheme::Legacy(0.514444), legacy()),
+        ("class", Scheme::Class, class()),
+    ] {
+        list.gaps(&format!("af1f_{name}"), scheme, file.clone(), runs([whole, short, &[0x20, 0x3f]]));
+        if matches!(scheme, Scheme::Precip(_) | Scheme::Class) {
+            list.gaps(&format!("28_{name}"), scheme, file.clone(), rays([bad, good, &[0, 1, 2]]));
+        }
+        if !matches!(scheme, Scheme::Legacy(_)) {
+            list.gaps(&format!("16_{name}"), scheme, file, bytes.clone());
+        }
+    }
+    let two = |first: i32| [first, 5].map(|level| component(1, 1, &[Ray(0.0, 1.0, 1, &[level])]));
+    let next = |width: u16| af1f(5, &[(1, 0, 10, short), (1, 10, width, whole)]);
+    for (name, body) in [
+        ("af1f_none", runs([whole, whole, &[0x31, 0x00, 0x25, 0xff]])),
+        ("af1f_all", runs([short, &[], &[0x0f, 0xf1]])),
+        ("af1f_then_19", next(10)[..41].to_vec()),
+        ("af1f_then_20", next(101)),
+        ("af1f_then_21", next(10)[..45].to_vec()),
+        ("28_none", rays([good, good, &[1, 2, 3]])),
+        ("28_all", rays([bad, &[-1, 0, 0], &[0, 0, i32::MIN]])),
+        ("28_then_31", p28(&[Ray(0.0, 1.0, 1, &[-1]), Ray(1.0, 1.0, 2, &[5, 6])])),
+        ("28_then_32", p28(&[Ray(0.0, 1.0, 1, &[-1]), Ray(1.0, 1.0, 1, &[5, 6])])),
+        ("28_then_28", wrapped(&components(2, &two(70_000)))),
+        ("28_then_35", wrapped(&[components(1, &two(-1)[..1]), vec![0]].concat())),
+    ] {
+        list.gaps(name, Scheme::Class, class(), body);
+    }
+    list.gaps("28_then_10", Scheme::Halfword, halfword(-320, 0, 254), rays([bad, good, good]));
+    list.gaps("af1f_then_9", Scheme::Halfword, halfword(-320, 0, 254), runs([short, whole, whole]));
+    for (name, azimuths, codes, physical, marks) in [
+        ("lent_exactly", 3, 15, 15, 3),
+        ("lent_azimuths", 2, 0, 0, 0),
+        ("lent_codes", 3, 14, 0, 0),
+        ("lent_physical", 3, 15, 14, 0),
+        ("lent_marks", 3, 15, 15, 2),
+    ] {
+        let lent = Lent { azimuths, codes, physical };
+        let (file, body) = (class(), runs([whole, short, whole]));
+        list.add(&format!("gaps_{name}"), Case::Gaps { clock: CLOCK, scheme: Scheme::Class, lent, marks, file, body });
+    }
+    list.0
+}
+
 /// Rows of 130 cells, so two blocks of 64 and a rest, of every packet under every scheme that it allows.
 fn blocks(list: &mut List) {
     let bytes: Vec<u8> = (0..261).map(|i| (i * 7 % 256) as u8).collect();
@@ -544,7 +607,7 @@ fn smaller(list: &mut List) {
     }
 }
 
-/// The edges, and cases made from a seed until each refusal and each packet under each scheme has a few.
+/// The edges, cases made from a seed until each refusal and each packet under each scheme has a few, and the gap readings.
 pub fn list() -> Vec<(String, Case)> {
     let mut list = edges();
     let mut seen: HashMap<String, usize> = HashMap::new();
@@ -574,6 +637,7 @@ pub fn list() -> Vec<(String, Case)> {
             list.push((format!("{group}_{count}"), case));
         }
     }
+    list.extend(gaps());
     list
 }
 
@@ -581,7 +645,7 @@ pub fn list() -> Vec<(String, Case)> {
 pub fn missing(list: &[(String, Case)]) -> Vec<String> {
     let mut counts = Counts::default();
     for (_, case) in list {
-        counts.count(case, &radish::answer(case));
+        counts.count(case, &wanted::answer(case));
     }
     counts.missing()
 }

@@ -27,6 +27,7 @@ fn a_case_survives_its_line() {
         let rng = &mut Rng::new(3, number);
         for case in [
             cases::sweep(rng),
+            cases::gaps(rng),
             cases::field(rng),
             cases::block(rng),
             cases::xdr(rng),
@@ -54,7 +55,9 @@ fn a_line_lends_no_more_than_a_sweep_has() {
         };
         let lent = Lent { azimuths: usize::MAX, codes: 1 << 40, physical: usize::MAX };
         let case = Case::Sweep { clock, scheme, lent, file, body };
-        let outcome = port.run(&case, Lent::MOST);
-        assert!(wanted::answer(&case).same(&outcome.answer) && outcome.fault.is_none());
+        for case in [case.clone(), case.with_marks(usize::MAX)] {
+            let outcome = port.run(&case, Lent::MOST);
+            assert!(wanted::answer(&case).same(&outcome.answer) && outcome.fault.is_none());
+        }
     }
 }

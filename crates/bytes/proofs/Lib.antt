@@ -9,4 +9,5 @@ pub mod Parts
 pub mod Results
 pub mod Readings
 pub mod Runs
+pub mod Gaps
 pub mod Examples

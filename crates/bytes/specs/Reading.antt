@@ -1,6 +1,6 @@
 -- A small language for readings of bytes. A reading says piece by piece what is read, what is passed over unread and what is a radial's
 -- data, so one text gives the answer (`run`), the position where it ends (`walk`), the places of the radials' data (`frames`), the unread
--- bytes (`Unread`) and the pieces with their sizes (`pieces`). What follows a radial's data does not receive the row that they make.
+-- bytes (`Unread`) and the pieces with their sizes (`pieces`), and the same reading with gaps (`gaps`). What follows a radial's data does not receive the row that they make.
 use Prim.Native.Nat.{ℕ, _+_, _-_, _≤_, _<_, min}
 use mathlib.Core.List.{List, [], _∷_}
 use mathlib.Core.Logic.{_⊎_}
@@ -186,3 +186,21 @@ module _ {W A : Type 0} where
   pieces (number w f) s p = as-number (size w) ∷ pieces (f (valueAt w s p)) s (p + size w)
   pieces (data-row k row t) s p = as-data k ∷ pieces t s (p + k)
   pieces (within w k t) s p = pieces t (take (p + k) s) p
+
+-- ---- with gaps
+
+-- What a radial's data give in a reading with gaps: the mark 0 and the codes of their row; where they make none, the mark 1 alone.
+abbrev pub marked : Result (List ℕ) → List ℕ
+marked (accepted codes) = 0 ∷ codes
+marked (refused x) = 1 ∷ []
+
+module _ {W A : Type 0} where
+  -- the same reading, which no radial's data stop: all its other refusals stand where they stood
+  unfoldable pub gaps : Read W A → Read W A
+  gaps (give a) = give a
+  gaps (stop x) = stop x
+  gaps (left f) = left (λ n. gaps (f n))
+  gaps (skip k t) = skip k (gaps t)
+  gaps (number w f) = number w (λ n. gaps (f n))
+  gaps (data-row k row t) = data-row k (λ bytes. accepted (marked (row bytes))) (gaps t)
+  gaps (within w k t) = within w k (gaps t)

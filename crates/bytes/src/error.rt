@@ -17,6 +17,7 @@ pub enum Buffer {
     Azimuths,
     Codes,
     Physical,
+    Marks,
 }
 
 pub enum Level3DecodeError {

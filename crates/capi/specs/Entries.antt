@@ -18,6 +18,7 @@ use Rattle.scale.specs.declared.physical.Scheme.{Scheme}
 use Rattle.scale.specs.declared.physical.Scheme.the-variants as Scheme
 use Rattle.symbology.specs.Answers.{Picture, figuresIn}
 use Rattle.sweep.specs.Sweep.{Accepted, sweepIn, Buffers, readInto}
+use Rattle.sweep.specs.GapSweep.{GapSweep, gapSweepIn, GapBuffers, gapsInto}
 use Rattle.xdr.specs.Xdr as Xdr
 use Rattle.xdr.specs.Answers.{done, stringPart, arrayPart}
 use Rattle.xdr.specs.Each.{uintAt, floatAt, stringAt, arrayAt, headAt, listAt, endAt}
@@ -82,6 +83,18 @@ pub record SweepLeaves (s : Buffers → Said (Result Accepted)) (number : ℕ) (
   pub azimuths : new .azimuths ≡ lentBy (roomFirst ints floats (s old)) (λ p. p .azimuths) (old .azimuths)
   pub codes : new .codes ≡ lentBy (roomFirst ints floats (s old)) (λ p. p .codes) (old .codes)
   pub physical : new .physical ≡ lentBy (roomFirst ints floats (s old)) (λ p. p .physical) (old .physical)
+
+-- the sweep with gaps, read into buffers that hold `old`
+abbrev pub gapsSaid : ℕ → Float → List ℕ → ℕ → List ℕ → GapBuffers → Said (Result GapSweep)
+gapsSaid n x file clock body old = saying (λ scheme. gapsInto scheme file clock body old) (schemeSaid n x)
+
+-- The same of l3_gaps, and of the fourth buffer, the marks.
+pub record GapsLeave (s : GapBuffers → Said (Result GapSweep)) (number : ℕ) (old new : GapBuffers) (ints ints' : List ℕ) (floats floats' : List Float) : Type 0 where
+  pub report : Leaves (saying (λ a. reportOf (gapSweepIn a) sweepReport) (s old)) number ints ints' floats floats'
+  pub azimuths : new .azimuths ≡ lentBy (roomFirst ints floats (s old)) (λ p. p .azimuths) (old .azimuths)
+  pub codes : new .codes ≡ lentBy (roomFirst ints floats (s old)) (λ p. p .codes) (old .codes)
+  pub physical : new .physical ≡ lentBy (roomFirst ints floats (s old)) (λ p. p .physical) (old .physical)
+  pub marks : new .marks ≡ lentBy (roomFirst ints floats (s old)) (λ p. p .marks) (old .marks)
 
 -- The same of l3_symbology, which reads a body by d into two buffers that held az and cs.
 pub record PictureLeaves (d : ℕ → ℕ → Result Picture) (number : ℕ) (az az' : List Float) (cs cs' : List ℕ) (ints ints' : List ℕ) (floats floats' : List Float) : Type 0 where

@@ -45,6 +45,7 @@ abbrev pub bufferNumber : Buffer → ℕ
 bufferNumber Buffer.Azimuths = 0
 bufferNumber Buffer.Codes = 1
 bufferNumber Buffer.Physical = 2
+bufferNumber Buffer.Marks = 3
 
 -- a refusal's whole numbers in order, items and buffers by their numbers
 abbrev pub wholesIn : List Value → List ℕ

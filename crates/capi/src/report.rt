@@ -53,6 +53,7 @@ fn buffer_number(buffer: Buffer) -> u64
         Buffer::Azimuths => 0,
         Buffer::Codes => 1,
         Buffer::Physical => 2,
+        Buffer::Marks => 3,
     }
 }
 

@@ -1,4 +1,4 @@
-// The sweep reading.
+// The sweep reading, without gaps and with them.
 use crate::report::Report;
 use crate::report::is_short;
 use crate::report::refusal_report;
@@ -7,9 +7,10 @@ use scale::physical::Scheme;
 use sweep::sweep::SweepAnswer;
 ghost use mathlib.Core.Path.{_≡_};
 ghost use Rattle.sweep.specs.Sweep.{answerOf, buffers};
+ghost use Rattle.sweep.specs.GapSweep.{gapBuffers};
 ghost use Rattle.capi.specs.Report.{reportOf};
 ghost use Rattle.capi.specs.Places.{sweepReport};
-ghost use Rattle.capi.specs.Entries.{schemeSaid, sweepSaid, SweepLeaves, askedOf};
+ghost use Rattle.capi.specs.Entries.{schemeSaid, sweepSaid, SweepLeaves, gapsSaid, GapsLeave, askedOf};
 
 // The scheme that is asked for.
 pub enum Asked {
@@ -75,5 +76,44 @@ pub extern "C" fn l3_sweep(
         Asked::Unknown => return 101,
     };
     let answer = sweep::sweep::read_sweep(file, clock, asked, body, azimuths, codes, physical);
+    write_report(sweep_report(answer), ints, floats)
+}
+
+#[no_mangle]
+pub extern "C" fn l3_gaps(
+    file: &[u8],
+    clock: u64,
+    scheme: u32,
+    parameter: f32,
+    body: &[u8],
+    azimuths: &mut [f64],
+    codes: &mut [u16],
+    physical: &mut [f32],
+    marks: &mut [u8],
+    ints: &mut [u64],
+    floats: &mut [f64],
+) -> u32
+    ensures { λ r. ⌜ GapsLeave (gapsSaid scheme parameter (now (file .entry)) clock (now (body .entry))) r
+        (gapBuffers (now (azimuths .entry)) (now (codes .entry)) (now (physical .entry)) (now (marks .entry)))
+        (gapBuffers (now (azimuths .exit)) (now (codes .exit)) (now (physical .exit)) (now (marks .exit)))
+        (now (ints .entry)) (now (ints .exit)) (now (floats .entry)) (now (floats .exit)) ⌝ }
+{
+    if is_short(ints.len(), floats.len()) {
+        return 100;
+    }
+    let asked = match scheme_of(scheme, parameter) {
+        Asked::Known(s) => s,
+        Asked::Unknown => return 101,
+    };
+    let answer = sweep::with_gaps::read_sweep_with_gaps(
+        file,
+        clock,
+        asked,
+        body,
+        azimuths,
+        codes,
+        physical,
+        marks,
+    );
     write_report(sweep_report(answer), ints, floats)
 }

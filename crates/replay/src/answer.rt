@@ -58,6 +58,9 @@ fn kind_of(line: &[u8]) -> Kind {
     if is(line, b"sweep") {
         return Kind::Sweep;
     }
+    if is(line, b"gaps") {
+        return Kind::Gaps;
+    }
     if is(line, b"sym") {
         return Kind::Symbology;
     }
@@ -126,6 +129,7 @@ fn has(line: &[u8], letters: &[u8]) -> bool {
 fn is_formed(line: &[u8], kind: Kind) -> bool {
     match kind {
         Kind::Sweep => has(line, b"wwcsnnnbb"),
+        Kind::Gaps => has(line, b"wwcsnnnnbb"),
         Kind::Symbology | Kind::Token | Kind::Header | Kind::Trailing => has(line, b"wwb"),
         Kind::Time => has(line, b"wwchz"),
         Kind::Field => has(line, b"wwbnnk"),
@@ -141,7 +145,8 @@ fn is_formed(line: &[u8], kind: Kind) -> bool {
 
 fn print(kind: Kind, line: &[u8]) {
     match kind {
-        Kind::Sweep => crate::sweeps::answer(line),
+        Kind::Sweep => crate::sweeps::answer(line, false),
+        Kind::Gaps => crate::sweeps::answer(line, true),
         Kind::Symbology => crate::body::symbology(line),
         Kind::Threshold => crate::tables::threshold(line),
         Kind::Legacy => crate::tables::legacy(line),

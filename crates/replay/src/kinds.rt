@@ -4,6 +4,7 @@ ghost use Rattle.replay.specs.Kinds.{fieldKind, schemeNumber, parameterO
 
 pub enum Kind {
     Sweep,
+    Gaps,
     Symbology,
     Token,
     Header,

@@ -25,6 +25,13 @@ pub fn physical() -> [f32; 4096]
     [-7777.0f32; 4096]
 }
 
+pub fn marks() -> [u8; 4096]
+    ensures { λ r. ⌜ r ≡ replicate 4096 165 ⌝ }
+    ensures { λ r. ⌜ 4096 ≡ length r ⌝ }
+{
+    [0xa5u8; 4096]
+}
+
 // The report, with places behind it that must be kept.
 pub fn ints() -> [u64; 24]
     ensures { λ r. ⌜ r ≡ replicate 24 11936128518282651045 ⌝ }
@@ -83,6 +90,17 @@ pub fn check_physical(physical: &[f32], from: usize) {
     while i < physical.len() {
         if physical[i] != -7777.0f32 {
             say_touched(b"physical");
+            return;
+        }
+        i += 1;
+    }
+}
+
+pub fn check_marks(marks: &[u8], from: usize) {
+    let mut i = from;
+    while i < marks.len() {
+        if marks[i] != 0xa5u8 {
+            say_touched(b"marks");
             return;
         }
         i += 1;

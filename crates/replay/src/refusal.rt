@@ -39,6 +39,7 @@ fn say_buffer(n: u64) {
         0 => say(b"azimuths"),
         1 => say(b"codes"),
         2 => say(b"physical"),
+        3 => say(b"marks"),
         _ => say(b"?"),
     }
 }

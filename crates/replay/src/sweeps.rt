@@ -1,4 +1,4 @@
-// The sweep reading.
+// The sweep reading, without gaps and with them.
 use crate::lent::float;
 use crate::lent::int;
 use crate::print::held_single;
@@ -53,11 +53,38 @@ fn print_sweep(
     print_physical(physical, crate::body::cells(ints));
 }
 
+// The marks of a reading with gaps.
+fn print_marks(gaps: bool, marks: &[u8], n: usize) {
+    if !gaps {
+        return;
+    }
+    say(b" marks=");
+    if marks.len() < n {
+        say(b"?");
+        return;
+    }
+    crate::print::hex_bytes(&marks[..n]);
+}
+
+// How many places of the marks are written: a reading without gaps has none.
+fn marked(gaps: bool, radials: usize) -> usize {
+    if gaps { radials } else { 0 }
+}
+
 // Says where the library wrote a place that it must keep: any from these on.
-fn check(azimuths: &[f64], codes: &[u16], physical: &[f32], radials: usize, cells: usize) {
+fn check(
+    azimuths: &[f64],
+    codes: &[u16],
+    physical: &[f32],
+    gaps: bool,
+    marks: &[u8],
+    radials: usize,
+    cells: usize,
+) {
     crate::lent::check_azimuths(azimuths, radials);
     crate::lent::check_codes(codes, cells);
     crate::lent::check_physical(physical, cells);
+    crate::lent::check_marks(marks, marked(gaps, radials));
 }
 
 fn print(
@@ -67,51 +94,68 @@ fn print(
     azimuths: &[f64],
     codes: &[u16],
     physical: &[f32],
+    gaps: bool,
+    marks: &[u8],
     file: &[u8],
 ) {
     if number != 0 {
         crate::refusal::print(number, ints, floats);
-        check(azimuths, codes, physical, 0, 0);
+        check(azimuths, codes, physical, gaps, marks, 0, 0);
         return;
     }
     print_sweep(file, ints, floats, azimuths, codes, physical);
-    check(
-        azimuths,
-        codes,
-        physical,
-        crate::body::radials(ints),
-        crate::body::cells(ints),
-    );
+    let n = crate::body::radials(ints);
+    let cells = crate::body::cells(ints);
+    print_marks(gaps, marks, n);
+    check(azimuths, codes, physical, gaps, marks, n, cells);
 }
 
-// The library's answer.
+// The word of the file; that of the body is the next. The lengths of the buffers stand before it, with gaps one more.
+fn file_word(gaps: bool) -> usize
+    ensures { λ r. ⌜ r ≤ 8 ⌝ }
+{
+    if gaps { 8 } else { 7 }
+}
+
+// The library's answer, with clock t, scheme s and the parameter x.
 fn ask(
     line: &[u8],
     file: &[u8],
     azimuths: &mut [f64],
     codes: &mut [u16],
     physical: &mut [f32],
+    gaps: bool,
+    marks: &mut [u8],
     ints: &mut [u64],
     floats: &mut [f64],
 ) -> u32 {
-    let mut body = crate::hex::room();
-    let n = crate::hex::read(word(line, 8), &mut body);
-    capi::sweeps::l3_sweep(
-        file,
-        crate::words::clock(word(line, 2)),
-        crate::kinds::scheme(word(line, 3)),
-        crate::hex::float(crate::kinds::parameter(word(line, 3))),
-        &body[..n],
-        azimuths,
-        codes,
-        physical,
-        ints,
-        floats,
-    )
+    let mut room = crate::hex::room();
+    let n = crate::hex::read(word(line, file_word(gaps) + 1), &mut room);
+    let body = &room[..n];
+    let t = crate::words::clock(word(line, 2));
+    let s = crate::kinds::scheme(word(line, 3));
+    let x = crate::hex::float(crate::kinds::parameter(word(line, 3)));
+    if gaps {
+        return capi::sweeps::l3_gaps(
+            file,
+            t,
+            s,
+            x,
+            body,
+            azimuths,
+            codes,
+            physical,
+            marks,
+            ints,
+            floats,
+        );
+    }
+    capi::sweeps::l3_sweep(file, t, s, x, body, azimuths, codes, physical, ints, floats)
 }
 
 fn answer_on(
     line: &[u8],
+    gaps: bool,
     file: &[u8],
     azimuths: &mut [f64],
     na: usize,
@@ -119,8 +163,10 @@ fn answer_on(
     nc: usize,
     physical: &mut [f32],
     np: usize,
+    marks: &mut [u8],
+    nm: usize,
 )
-    requires { ⌜ (na ≤ length (now azimuths)) × (nc ≤ length (now codes)) × (np ≤ length (now physical)) ⌝ }
+    requires { ⌜ (na ≤ length (now azimuths)) × (nc ≤ length (now codes)) × (np ≤ length (now physical)) × (nm ≤ length (now marks)) ⌝ }
 {
     let mut ints = crate::lent::ints();
     let mut floats = crate::lent::floats();
@@ -130,40 +176,82 @@ fn answer_on(
         &mut azimuths[..na],
         &mut codes[..nc],
         &mut physical[..np],
+        gaps,
+        &mut marks[..nm],
         &mut ints,
         &mut floats,
     );
-    print(number, &ints, &floats, azimuths, codes, physical, file);
+    print(
+        number,
+        &ints,
+        &floats,
+        azimuths,
+        codes,
+        physical,
+        gaps,
+        marks,
+        file,
+    );
     crate::lent::check_report(&ints, &floats);
+}
+
+fn marks_size(line: &[u8], gaps: bool) -> usize {
+    if gaps { size(word(line, 7)) } else { 0 }
 }
 
 // On buffers of the lengths that the line says, where there is room for them.
 fn answer_within(
     line: &[u8],
+    gaps: bool,
     file: &[u8],
     azimuths: &mut [f64],
     codes: &mut [u16],
     physical: &mut [f32],
+    marks: &mut [u8],
 ) {
     let na = size(word(line, 4));
     let nc = size(word(line, 5));
     let np = size(word(line, 6));
+    let nm = marks_size(line, gaps);
     if na <= azimuths.len() {
         if nc <= codes.len() {
             if np <= physical.len() {
-                answer_on(line, file, azimuths, na, codes, nc, physical, np);
-                return;
+                if nm <= marks.len() {
+                    answer_on(
+                        line,
+                        gaps,
+                        file,
+                        azimuths,
+                        na,
+                        codes,
+                        nc,
+                        physical,
+                        np,
+                        marks,
+                        nm,
+                    );
+                    return;
+                }
             }
         }
     }
     say(b"? too large");
 }
 
-pub fn answer(line: &[u8]) {
+pub fn answer(line: &[u8], gaps: bool) {
     let mut file = crate::hex::room();
-    let n = crate::hex::read(word(line, 7), &mut file);
+    let n = crate::hex::read(word(line, file_word(gaps)), &mut file);
     let mut azimuths = crate::lent::azimuths();
     let mut codes = crate::lent::codes();
     let mut physical = crate::lent::physical();
-    answer_within(line, &file[..n], &mut azimuths, &mut codes, &mut physical);
+    let mut marks = crate::lent::marks();
+    answer_within(
+        line,
+        gaps,
+        &file[..n],
+        &mut azimuths,
+        &mut codes,
+        &mut physical,
+        &mut marks,
+    );
 }

@@ -15,8 +15,6 @@ use Rattle.bytes.specs.declared.error.Level3DecodeError.{Level3DecodeError}
 use Rattle.bytes.specs.Result.{Result, accepted, refused, then, lent}
 use Rattle.scale.specs.Physical.{physicalOf, fillOf}
 use Rattle.scale.specs.declared.physical.Declared.{Declared}
-use Rattle.scale.specs.declared.physical.DeclaredScaleRead.{DeclaredScaleRead}
-use Rattle.scale.specs.declared.physical.DeclaredScaleRead.the-variants as DeclaredScaleRead
 use Rattle.scale.specs.declared.physical.Scheme.{Scheme}
 use Rattle.symbology.specs.Answers.{decodeFor}
 use Rattle.symbology.specs.declared.figures.Figures.{Figures}
@@ -25,7 +23,7 @@ use Rattle.sweep.specs.declared.plan.Head.{Head}
 use Rattle.sweep.specs.declared.sweep.Sweep.{Sweep}
 use Rattle.sweep.specs.declared.sweep.SweepAnswer.{SweepAnswer}
 use Rattle.sweep.specs.declared.sweep.SweepAnswer.the-variants as SweepAnswer
-use Rattle.sweep.specs.Sweep.{Accepted, sweepOf, sweepIn, buffers, Ran}
+use Rattle.sweep.specs.Sweep.{Accepted, sweepOf, sweepIn, answerOf, sweepWith, buffers, Ran}
 use Rattle.show.specs.InPart.{ReadInPart}
 use Rattle.sweep.proofs.Parts.{block-start, parts, sizes}
 use Rattle.sweep.proofs.Reading as reading
@@ -94,17 +92,18 @@ module _ (scheme : Scheme) (file : List ℕ) (clock : ℕ) (body : List ℕ) (az
 
 -- ---- after symbology's entry has accepted
 
-module _ {scheme : Scheme} {file : List ℕ} {clock : ℕ} {body : List ℕ} {az : List Float} {cs : List ℕ} (ph : List Float) {h : Head} {d : DeclaredScaleRead} {t : Terms} {f : Figures}
+module _ {scheme : Scheme} {file : List ℕ} {clock : ℕ} {body : List ℕ} {az : List Float} {cs : List ℕ} (ph : List Float) {h : Head} {d : Result Declared} {t : Terms} {f : Figures}
     (w : reading.Decoded scheme file clock body az cs (full cs) h d t f) {cs' : List ℕ} (c : cs' ≡ lent (decodeFor t body (length az) (length cs)) (λ p. p .codes) cs) where
   abbrev Z : Result Accepted
   Z = sweepOf scheme file clock body (length az) (length cs) (length (full cs))
 
   -- the answer on the long buffer, and the sweep that it is of
-  on-full : (accepted (record { token = h .token; fields = h .fields; time = h .time; declared = reading.drawn-here w .declared; figures = f }) ≡ sweepIn Z)
+  on-full : (accepted (record { token = h .token; fields = h .fields; time = h .time; declared = reading.drawn-here w .admitted .declared; figures = f }) ≡ sweepIn Z)
       × (cs' ≡ lent Z (λ p. p .codes) cs)
-  on-full = let t = reading.read w c (reading.drawn-here w .declares) refl refl in (t .answered, t .codes)
+  on-full = let t : Ran scheme file clock body (buffers az cs (full cs)) (buffers _ cs' _) (SweepAnswer.Accepted (record { token = h .token; fields = h .fields; time = h .time; declared = reading.drawn-here w .admitted .declared; figures = f })) =
+      reading.read w c (ap (λ y. sweepWith h y f) (sym (reading.drawn-here w .admitted .declares))) refl refl in (t .answered, t .codes)
 
-  found : (q : Accepted) × (Z ≡ accepted q) × (q .sweep ≡ record { token = h .token; fields = h .fields; time = h .time; declared = reading.drawn-here w .declared; figures = f })
+  found : (q : Accepted) × (Z ≡ accepted q) × (q .sweep ≡ record { token = h .token; fields = h .fields; time = h .time; declared = reading.drawn-here w .admitted .declared; figures = f })
   found = accepted-sweep Z (on-full .0)
 
   abbrev q : Accepted
@@ -147,11 +146,10 @@ module _ {scheme : Scheme} {file : List ℕ} {clock : ℕ} {body : List ℕ} {az
         let z : _≡_ {A = ℕ} 0 1 = cc in
         absurd (omega arith)
 
-    pub read : {declared : Declared} {az' ph' : List Float} → d ≡ DeclaredScaleRead.Value declared
+    pub read : {r : SweepAnswer} {az' ph' : List Float} → answerOf r ≡ sweepWith h d f
         → az' ≡ lent (decodeFor t body (length az) (length cs)) (λ p. p .azimuths) az
         → ph' ≡ lent (fillOf scheme file (h .block) (take n cs') (length ph)) (λ values. values) ph
-        → Reads scheme file clock body az cs ph
-        (SweepAnswer.Accepted (record { token = h .token; fields = h .fields; time = h .time; declared = declared; figures = f })) az' cs' ph'
+        → Reads scheme file clock body az cs ph r az' cs' ph'
     read is a v =
         reads scheme file clock body az cs ph (reading.read w c is a refl)
         (v ∙ ap (λ r. lent r (λ values. values) ph) filled

@@ -1,3 +1,4 @@
+pub mod Gaps
 pub mod InPart
 pub mod Rounded
 pub mod Words

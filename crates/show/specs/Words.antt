@@ -1,4 +1,4 @@
--- The program's arguments: whole numbers, decimal numbers, the scheme's word. Assumes nothing.
+-- The program's arguments: whole numbers, decimal numbers, the scheme's word, the word gaps. Assumes nothing.
 use Prim.Native.Nat.{ℕ, _+_, _-_, _*_, _^_}
 use mathlib.Core.List.{List, [], _∷_, _++_}
 use mathlib.Core.Bool.{Bool, cond, not, _&&_, _||_}
@@ -54,7 +54,7 @@ abbrev pub with-number : (Float → Scheme) → Decimal → SchemeWord
 with-number scheme (Decimal.Value x) = SchemeWord.Value (scheme x)
 with-number scheme Decimal.Bad = SchemeWord.BadNumber
 
--- the words in ASCII: halfword, float, class, precipitation:, legacy:
+-- the words in ASCII: halfword, float, class, precipitation:, legacy:, gaps
 abbrev pub halfword : List ℕ
 halfword = 104 ∷ 97 ∷ 108 ∷ 102 ∷ 119 ∷ 111 ∷ 114 ∷ 100 ∷ []
 
@@ -69,6 +69,9 @@ precipitation = 112 ∷ 114 ∷ 101 ∷ 99 ∷ 105 ∷ 112 ∷ 105 ∷ 116 ∷ 9
 
 abbrev pub legacy : List ℕ
 legacy = 108 ∷ 101 ∷ 103 ∷ 97 ∷ 99 ∷ 121 ∷ 58 ∷ []
+
+abbrev pub gaps : List ℕ
+gaps = 103 ∷ 97 ∷ 112 ∷ 115 ∷ []
 
 -- the word begins so
 abbrev pub begins : List ℕ → List ℕ → Bool

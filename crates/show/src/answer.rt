@@ -1,4 +1,4 @@
-// The sweep reading on the program's buffers, and its answer in words.
+// The sweep reading on the program's buffers, with or without gaps, and its answer in words.
 use scale::physical::DeclaredScaleRead;
 use scale::physical::Filled;
 use scale::physical::Scheme;
@@ -6,6 +6,9 @@ use sweep::plan::HeadRead;
 use sweep::sweep::Sweep;
 use sweep::sweep::SweepAnswer;
 use symbology::figures::FiguresRead;
+ghost use mathlib.Core.Path.{_≡_};
+ghost use mathlib.Core.Bool.{cond};
+ghost use Prim.Native.Nat.{_≤_};
 ghost use Rattle.sweep.specs.Sweep.{buffers};
 ghost use Rattle.show.specs.InPart.{ReadInPart};
 
@@ -53,11 +56,49 @@ fn read(
     }
 }
 
-pub fn show(file: &[u8], clock: u64, scheme: Scheme, body: &[u8]) {
+// How many marks are shown: none without gaps.
+fn shown_marks(gaps: bool) -> usize
+    ensures { λ r. ⌜ r ≡ cond gaps 4096 0 ⌝ }
+    ensures { λ r. ⌜ r ≤ 4096 ⌝ }
+{
+    if gaps { 4096 } else { 0 }
+}
+
+// The reading that was asked for. The one with gaps takes the values of all cells: without room for them it is refused with 36.
+fn read_asked(
+    gaps: bool,
+    file: &[u8],
+    clock: u64,
+    scheme: Scheme,
+    body: &[u8],
+    azimuths: &mut [f64],
+    codes: &mut [u16],
+    physical: &mut [f32],
+    marks: &mut [u8],
+) -> SweepAnswer {
+    if gaps {
+        return sweep::with_gaps::read_sweep_with_gaps(
+            file,
+            clock,
+            scheme,
+            body,
+            azimuths,
+            codes,
+            physical,
+            marks,
+        );
+    }
+    read(file, clock, scheme, body, azimuths, codes, physical)
+}
+
+// One set of buffers for both readings: two would not fit the stack.
+pub fn show(gaps: bool, file: &[u8], clock: u64, scheme: Scheme, body: &[u8]) {
     let mut azimuths = crate::buffers::azimuths();
     let mut codes = crate::buffers::codes();
     let mut physical = crate::buffers::physical();
-    match read(
+    let mut marks = crate::buffers::marks();
+    match read_asked(
+        gaps,
         file,
         clock,
         scheme,
@@ -65,8 +106,12 @@ pub fn show(file: &[u8], clock: u64, scheme: Scheme, body: &[u8]) {
         &mut azimuths,
         &mut codes,
         &mut physical,
+        &mut marks,
     ) {
         SweepAnswer::Refused(e) => crate::refusals::print(e),
-        SweepAnswer::Accepted(s) => crate::picture::print(s, file, &azimuths, &codes, &physical),
+        SweepAnswer::Accepted(s) => {
+            let n = shown_marks(gaps);
+            crate::picture::print(s, file, &azimuths, &codes, &physical, &marks[..n]);
+        }
     }
 }

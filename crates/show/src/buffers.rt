@@ -25,6 +25,13 @@ pub fn azimuths() -> [f64; 4096]
     [0.0f64; 4096]
 }
 
+pub fn marks() -> [u8; 4096]
+    ensures { λ r. ⌜ r ≡ replicate 4096 0 ⌝ }
+    ensures { λ r. ⌜ 4096 ≡ length r ⌝ }
+{
+    [0u8; 4096]
+}
+
 pub fn codes() -> [u16; 1324800]
     ensures { λ r. ⌜ r ≡ replicate 1324800 0 ⌝ }
     ensures { λ r. ⌜ 1324800 ≡ length r ⌝ }

@@ -1,5 +1,5 @@
-// show FILE [BODY SCHEME [CLOCK]]: reads a product file and its unpacked symbology body, and prints what the sweep reading answers. With
-// FILE alone it prints the head, which needs no scheme.
+// show FILE [BODY SCHEME [CLOCK] [gaps]]: reads a product file and its unpacked symbology body, and prints what the sweep reading
+// answers, the one with gaps where the word is given. With FILE alone it prints the head, which needs no scheme.
 //
 // An accepted sweep goes to standard output as text, a refusal as one line that begins `refused:`. What keeps the program from
 // asking, as a wrong argument or a file that can't be read, goes to standard error.
@@ -20,7 +20,7 @@ use words::ClockWord;
 use words::SchemeWord;
 
 fn print_usage() {
-    text::warn(b"usage: show FILE [BODY SCHEME [CLOCK]]\n");
+    text::warn(b"usage: show FILE [BODY SCHEME [CLOCK] [gaps]]\n");
     text::warn(b"  FILE    the product file; its first 4096 bytes are read\n");
     text::warn(b"          without BODY and SCHEME its head alone is printed\n");
     text::warn(b"  BODY    the unpacked symbology body, at most 1400000 bytes\n");
@@ -28,10 +28,11 @@ fn print_usage() {
     text::warn(b"          FACTOR and POSTSCALE are numbers such as 1, 25.4 or 0.01: at most\n");
     text::warn(b"          7 digits beside leading zeros, at most 10 after the point\n");
     text::warn(b"  CLOCK   the time now in seconds since 1970; without it the system's clock\n");
+    text::warn(b"  gaps    a radial whose data make no row is drawn as a gap, not refused\n");
 }
 
 // The file's first bytes, the body, and the answer.
-fn run(scheme: Scheme, clock: u64) {
+fn run(gaps: bool, scheme: Scheme, clock: u64) {
     let mut file = buffers::file_bytes();
     let file_len = match files::load(1, &mut file) {
         Loaded::Failed => return,
@@ -59,7 +60,7 @@ fn run(scheme: Scheme, clock: u64) {
         text::warn(b" as bunzip2 -c BODY does\n");
         return;
     }
-    answer::show(&file[..f], clock, scheme, &body[..b]);
+    answer::show(gaps, &file[..f], clock, scheme, &body[..b]);
 }
 
 // The head of a file; class has no scale fields, so that no scheme has a say.
@@ -91,10 +92,19 @@ fn run_head() {
 }
 
 fn main() {
-    let words = os::arg_count();
-    if words == 2 {
+    let count = os::arg_count();
+    if count == 2 {
         run_head();
         return;
+    }
+    // The words without gaps; SCHEME is never taken for it.
+    let mut words = count;
+    let mut gaps = false;
+    if 4 < count {
+        gaps = words::gaps_argument(count - 1);
+        if gaps {
+            words = count - 1;
+        }
     }
     if words < 4 || 5 < words {
         print_usage();
@@ -125,5 +135,5 @@ fn main() {
             return;
         }
     };
-    run(scheme, clock);
+    run(gaps, scheme, clock);
 }

@@ -8,7 +8,8 @@ use symbology::figures::Figures;
 use symbology::figures::Geometry;
 use symbology::figures::Packet;
 ghost use mathlib.Core.Path.{_≡_};
-ghost use Prim.Native.Nat.{min};
+ghost use Prim.Native.Nat.{_≤_, min};
+ghost use Rattle.show.specs.Gaps.{oneIf, marked as markedIn, gapAt};
 
 // A line's name, in a column of its own.
 fn label(s: &[u8]) {
@@ -151,13 +152,61 @@ fn print_values(physical: &[f32]) {
     crate::text::say(b"\n");
 }
 
-// The first n cells of a radial that stand from place `at` on.
-fn print_radial(radial: usize, azimuth: f64, at: usize, n: usize, codes: &[u16], physical: &[f32]) {
+// 1 for the mark of a gap.
+fn one_if(mark: u8) -> usize
+    ensures { λ r. ⌜ r ≡ oneIf mark ⌝ }
+    ensures { λ r. ⌜ r ≤ 1 ⌝ }
+{
+    if mark == 0 { 0 } else { 1 }
+}
+
+// How many radials are marked as gaps.
+fn marked(marks: &[u8]) -> usize
+    ensures { λ r. ⌜ r ≡ markedIn (now (marks .entry)) ⌝ }
+{
+    let mut n = 0usize;
+    let mut i = 0usize;
+    while i < marks.len() {
+        n += one_if(marks[i]);
+        i += 1;
+    }
+    n
+}
+
+// Whether a radial is marked; past the marks' end none is.
+fn is_gap(marks: &[u8], radial: usize) -> bool
+    ensures { λ r. ⌜ r ≡ gapAt (now (marks .entry)) radial ⌝ }
+{
+    bytes::bytes::byte_at(marks, radial) != 0
+}
+
+// The number of gaps, where there are marks.
+fn print_gaps(marks: &[u8]) {
+    if 0 < marks.len() {
+        whole_line(b"gaps", marked(marks));
+    }
+}
+
+// The first n cells of a radial that stand from place `at` on, or that it is a gap.
+fn print_radial(
+    radial: usize,
+    azimuth: f64,
+    gap: bool,
+    at: usize,
+    n: usize,
+    codes: &[u16],
+    physical: &[f32],
+) {
     crate::text::say(b"radial ");
     crate::text::size(radial);
     crate::text::say(b", centre ");
     crate::floats::double(azimuth, 0);
-    crate::text::say(b" degrees\n");
+    crate::text::say(b" degrees");
+    if gap {
+        crate::text::say(b": a gap\n");
+        return;
+    }
+    crate::text::say(b"\n");
     if at <= codes.len() {
         if n <= codes.len() - at {
             let end = at + n;
@@ -172,13 +221,28 @@ fn print_radial(radial: usize, azimuth: f64, at: usize, n: usize, codes: &[u16],
     }
 }
 
-fn print_radials(radials: usize, bins: usize, azimuths: &[f64], codes: &[u16], physical: &[f32]) {
+fn print_radials(
+    radials: usize,
+    bins: usize,
+    azimuths: &[f64],
+    codes: &[u16],
+    physical: &[f32],
+    marks: &[u8],
+) {
     let n = least(bins, 8);
     let shown = least(least(radials, 4), azimuths.len());
     let mut at = 0usize;
     let mut radial = 0usize;
     while radial < shown {
-        print_radial(radial, azimuths[radial], at, n, codes, physical);
+        print_radial(
+            radial,
+            azimuths[radial],
+            is_gap(marks, radial),
+            at,
+            n,
+            codes,
+            physical,
+        );
         if codes.len() - at < bins {
             return;
         }
@@ -214,7 +278,15 @@ pub fn print_head(h: Head, file: &[u8]) {
     print_fields(fields, h.time);
 }
 
-pub fn print(s: Sweep, file: &[u8], azimuths: &[f64], codes: &[u16], physical: &[f32]) {
+// A sweep. `marks` is empty where gaps were not asked for; else a mark past the last radial's is 0.
+pub fn print(
+    s: Sweep,
+    file: &[u8],
+    azimuths: &[f64],
+    codes: &[u16],
+    physical: &[f32],
+    marks: &[u8],
+) {
     print_token(file, s.token);
     let fields = s.fields;
     print_fields(fields, s.time);
@@ -222,11 +294,19 @@ pub fn print(s: Sweep, file: &[u8], azimuths: &[f64], codes: &[u16], physical: &
     print_declared(declared);
     let figures = s.figures;
     print_figures(figures);
+    print_gaps(marks);
     print_extent(figures.n_radials, figures.n_bins);
     if is_over(figures.n_radials, figures.n_bins, physical.len()) {
         crate::text::say(b"values are worked out for the first ");
         crate::text::size(physical.len());
         crate::text::say(b" cells alone\n");
     }
-    print_radials(figures.n_radials, figures.n_bins, azimuths, codes, physical);
+    print_radials(
+        figures.n_radials,
+        figures.n_bins,
+        azimuths,
+        codes,
+        physical,
+        marks,
+    );
 }

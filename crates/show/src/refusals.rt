@@ -335,6 +335,7 @@ fn buffer_words(b: Buffer) {
         Buffer::Azimuths => words(b"azimuths: this program has room for 4096 radials"),
         Buffer::Codes => words(b"codes: this program has room for 1324800 cells"),
         Buffer::Physical => words(b"physical: this program has room for 720000 cells"),
+        Buffer::Marks => words(b"marks: this program has room for 4096 radials"),
     }
     words(b", the library takes buffers of any length");
 }

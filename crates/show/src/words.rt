@@ -1,9 +1,10 @@
-// The arguments SCHEME and CLOCK.
+// The arguments SCHEME and CLOCK, and the word gaps.
 use scale::physical::Scheme;
 ghost use mathlib.Core.Path.{_≡_};
 ghost use Prim.Native.Nat.{_≤_, _^_};
 ghost use Rattle.bytes.specs.Float.{f32};
-ghost use Rattle.show.specs.Words.{numberFrom, pointAt, quotientOf, decimalOf, with-number, begins, schemeOf};
+ghost use Rattle.show.specs.Words.{numberFrom, pointAt, quotientOf, decimalOf, with-number, begins, schemeOf, gaps};
+ghost use Rattle.bytes.specs.Text.{same};
 ghost use Rattle.scale.specs.declared.physical.Scheme.the-variants as Scheme;
 
 pub enum SchemeWord {
@@ -193,6 +194,22 @@ pub fn scheme_argument(i: usize) -> SchemeWord {
         return SchemeWord::Unknown;
     }
     scheme_of(&word[..n])
+}
+
+fn is_gaps(word: &[u8]) -> bool
+    ensures { λ r. ⌜ r ≡ same (now (word .entry)) gaps ⌝ }
+{
+    bytes::text::same(word, b"gaps")
+}
+
+// Whether argument i is the word gaps.
+pub fn gaps_argument(i: usize) -> bool {
+    let mut word = [0u8; 64];
+    let n = os::arg(i, &mut word);
+    if os::errno() != 0 {
+        return false;
+    }
+    is_gaps(&word[..n])
 }
 
 fn system_clock() -> ClockWord {

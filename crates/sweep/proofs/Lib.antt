@@ -11,3 +11,13 @@ pub mod Table
 pub mod Timed
 pub mod Reading
 pub mod Circle
+pub mod Blanks
+pub mod Blanking
+pub mod GapReading
+pub mod GapParts
+pub mod AsOrdinary
+pub mod GapRefusals
+pub mod GapDamage
+pub mod TwoGapRuns
+pub mod GapCalls
+pub mod GapOrder

@@ -37,10 +37,10 @@ use Rattle.symbology.specs.declared.figures.Terms.{Terms}
 use Rattle.sweep.specs.declared.plan.Head.{Head}
 use Rattle.sweep.specs.declared.sweep.SweepAnswer.{SweepAnswer}
 use Rattle.sweep.specs.declared.sweep.SweepAnswer.the-variants as SweepAnswer
-use Rattle.bytes.proofs.Results.{clash, one-value, through, passed}
+use Rattle.bytes.proofs.Results.{clash, one-value, one-refusal, through, passed}
 use Rattle.sweep.proofs.Parts.{block-start}
 use Rattle.symbology.proofs.RowPlaces.{codes-long}
-use Rattle.sweep.specs.Sweep.{headOf, allowed, roomFor, Accepted, finish, sweepOf, sweepIn, answerOf, buffers, Ran, packetsFor, termsFor}
+use Rattle.sweep.specs.Sweep.{headOf, allowed, roomFor, Accepted, finish, sweepOf, sweepIn, answerOf, sweepWith, buffers, Ran, packetsFor, termsFor}
 
 -- ---- what is asked of a body on the terms of a scheme
 
@@ -71,7 +71,7 @@ any PacketAf1f = refl
 any Packet28 = refl
 
 -- the packets that are asked for are the scheme's
-asked-is : (scheme : Scheme) (file : List ℕ) (block : ℕ) (s : Scaling) → scaleFields scheme file block ≡ accepted s → (packet : Packet)
+pub asked-is : (scheme : Scheme) (file : List ℕ) (block : ℕ) (s : Scaling) → scaleFields scheme file block ≡ accepted s → (packet : Packet)
     → asked (packetsFor s) packet ≡ allowed scheme packet
 unfolding scaleFields allowed
 asked-is Scheme.Halfword file block s e packet =
@@ -85,7 +85,7 @@ asked-is (Scheme.Legacy post) file block s e packet =
 asked-is Scheme.Class file block s e packet = ap (λ v. asked (packetsFor v) packet) (sym (one-value e)) ∙ any packet
 
 -- 9 on these terms is the declared scale's
-step-declared : (s : Scaling) → stepOf (packetsFor s) ≡ then (declaredScale s) (λ _. accepted tt)
+pub step-declared : (s : Scaling) → stepOf (packetsFor s) ≡ then (declaredScale s) (λ _. accepted tt)
 unfolding declaredScale
 step-declared (Scaling.Linear s) = by (le (s .«value_increment») (f32 0 1)) _
   where
@@ -99,7 +99,7 @@ step-declared (Scaling.Legacy at post) = refl
 step-declared Scaling.Class = refl
 
 -- what acceptance gives
-abbrev swept : Scheme → List ℕ → Head → Picture → Declared → Accepted
+abbrev pub swept : Scheme → List ℕ → Head → Picture → Declared → Accepted
 swept scheme file h p declared =
     record {
       sweep = record { token = h .token; fields = h .fields; time = h .time; declared = declared; figures = p .figures };
@@ -109,17 +109,17 @@ swept scheme file h p declared =
     }
 
 module _ (scheme : Scheme) (file : List ℕ) (h : Head) (na nc np : ℕ) where
-  by-declared : (b : Bool) (d : DeclaredScaleRead) (room : Result (Unit {0})) (p : Picture)
-      → refuse b (kind 10 []) (then (declaredScaleOf d) λ declared. then room λ _. accepted (swept scheme file h p declared))
-      ≡ then (then (refuse b (kind 10 []) (then (then (declaredScaleOf d) λ _. accepted (tt {0})) λ _. room)) λ _. accepted p) λ q. then (declaredScaleOf d) λ declared. accepted (swept scheme file h q declared)
+  by-declared : (b : Bool) (d : Result Declared) (room : Result (Unit {0})) (p : Picture)
+      → refuse b (kind 10 []) (then d λ declared. then room λ _. accepted (swept scheme file h p declared))
+      ≡ then (then (refuse b (kind 10 []) (then (then d λ _. accepted (tt {0})) λ _. room)) λ _. accepted p) λ q. then d λ declared. accepted (swept scheme file h q declared)
   by-declared true d room p = refl
-  by-declared false (DeclaredScaleRead.Refused e) room p = refl
-  by-declared false (DeclaredScaleRead.Value declared) (accepted u) p = refl
-  by-declared false (DeclaredScaleRead.Value declared) (refused x) p = refl
+  by-declared false (refused e) room p = refl
+  by-declared false (accepted declared) (accepted u) p = refl
+  by-declared false (accepted declared) (refused x) p = refl
 
-  finish-is : (d : DeclaredScaleRead) → declaredScaleOf d ≡ declaredScale (h .scaling) → scaleFields scheme file (h .block) ≡ accepted (h .scaling) → (p : Picture)
+  finish-is : (d : Result Declared) → d ≡ declaredScale (h .scaling) → scaleFields scheme file (h .block) ≡ accepted (h .scaling) → (p : Picture)
       → finish scheme file na nc np h p
-      ≡ then (then (admit (termsFor (h .scaling) np) na nc (p .figures)) λ _. accepted p) λ q. then (declaredScaleOf d) λ declared. accepted (swept scheme file h q declared)
+      ≡ then (then (admit (termsFor (h .scaling) np) na nc (p .figures)) λ _. accepted p) λ q. then d λ declared. accepted (swept scheme file h q declared)
   unfolding finish admit roomIn roomFor tooFew termsFor
   finish-is d e es p =
       rw (asked-is scheme file (h .block) (h .scaling) es (p .figures .packet), step-declared (h .scaling), ← e)
@@ -127,16 +127,19 @@ module _ (scheme : Scheme) (file : List ℕ) (h : Head) (na nc np : ℕ) where
 
 -- ---- a picture that was read
 
-refused-figures : (z : Result Picture) {x : Refusal} → refused x ≡ figuresIn z → z ≡ refused x
-refused-figures (accepted p) {x} e = clash (p .figures) x e
-refused-figures (refused y) e = ap refused (same (sym e))
-  where
-    same : {x y : Refusal} → _≡_ {A = Result Figures} (refused x) (refused y) → x ≡ y
-    same h = cc
+-- an answer that hands on a part of what was read
+module _ {A B : Type 0} (part : A → B) where
+  pub refused-in : (z : Result A) {x : Refusal} → refused x ≡ then z (λ a. accepted (part a)) → z ≡ refused x
+  refused-in (accepted a) {x} e = clash (part a) x e
+  refused-in (refused y) e = ap refused (one-refusal (sym e))
 
-given-figures : (z : Result Picture) {f : Figures} → accepted f ≡ figuresIn z → (p : Picture) × (z ≡ accepted p) × (p .figures ≡ f)
-given-figures (accepted p) e = (p, refl, sym (one-value e))
-given-figures (refused x) {f} e = clash f x (sym e)
+  pub given-in : (z : Result A) {b : B} → accepted b ≡ then z (λ a. accepted (part a)) → (a : A) × (z ≡ accepted a) × (part a ≡ b)
+  given-in (accepted a) e = (a, refl, sym (one-value e))
+  given-in (refused x) {b} e = clash b x (sym e)
+
+-- the front of a lent buffer
+pub front-is : {A : Type 0} (n : ℕ) (xs old : List A) {new : List A} → new ≡ xs ++ drop (length xs) old → length xs ≡ n → take n new ≡ xs
+front-is n xs old e long = ap (take n) e ∙ ap (λ m. take m (xs ++ drop (length xs) old)) (sym long) ∙ take-append-seam xs _
 
 -- an accepted body has as many codes as its figures say
 many : (body : List ℕ) (p : Picture) → pictureOf body ≡ accepted p → length (p .codes) ≡ p .figures .«n_radials» * p .figures .«n_bins»
@@ -146,55 +149,69 @@ many body p e =
     let same = one-value y in
     ap (λ (q : Picture). length (q .codes)) (sym same) ∙ codes-long body g eg (p .figures) (ap (λ (q : Picture). q .figures) same)
 
-passed-value : {C : Type 0} (d : DeclaredScaleRead) (r : Result (Unit {0})) → then (then (declaredScaleOf d) (λ _. accepted (tt {0}))) (λ _. r) ≡ accepted tt
-    → ((declared : Declared) → d ≡ DeclaredScaleRead.Value declared → r ≡ accepted tt → C) → C
-passed-value (DeclaredScaleRead.Value declared) r e k = k declared refl e
-passed-value (DeclaredScaleRead.Refused x) r e k = clash tt (refusalOf x) e
+passed-value : {C : Type 0} (d : Result Declared) (r : Result (Unit {0})) → then (then d (λ _. accepted (tt {0}))) (λ _. r) ≡ accepted tt
+    → ((declared : Declared) → d ≡ accepted declared → r ≡ accepted tt → C) → C
+passed-value (accepted declared) r e k = k declared refl e
+passed-value (refused x) r e k = clash tt x e
 
--- what is known once a body was read on the terms of a scaling
-pub record Drawn (s : Scaling) (d : DeclaredScaleRead) (body : List ℕ) (na nc np : ℕ) (f : Figures) : Type 0 where
+-- what is known of figures that the terms of a scaling have let pass
+pub record Admitted (d : Result Declared) (nc np : ℕ) (f : Figures) : Type 0 where
+  pub declared : Declared
+  pub declares : d ≡ accepted declared
+  pub codes-room : f .«n_radials» * f .«n_bins» ≤ nc
+  pub physical-room : f .«n_radials» * f .«n_bins» ≤ np
+
+pub admitted : (s : Scaling) (d : Result Declared) → d ≡ declaredScale s → (na nc np : ℕ) (f : Figures)
+    → admit (termsFor s np) na nc f ≡ accepted tt → Admitted d nc np f
+unfolding admit roomIn tooFew termsFor
+admitted s d is na nc np f e =
+    passed (not (asked (packetsFor s) (f .packet))) _ _ tt e λ _ e₃.
+    passed-value d _ (rw (step-declared s, ← is) at e₃) λ declared ed e₄.
+    passed (ltb na (f .«n_radials»)) _ _ tt e₄ λ _ e₅.
+    passed (ltb nc (f .«n_radials» * f .«n_bins»)) _ _ tt e₅ λ c e₆.
+    passed (ltb np (f .«n_radials» * f .«n_bins»)) _ _ tt e₆ λ v _.
+    record { declared = declared; declares = ed; codes-room = ltb-false _ _ c; physical-room = ltb-false _ _ v }
+
+-- and once a body was read on them
+pub record Drawn (s : Scaling) (d : Result Declared) (body : List ℕ) (na nc np : ℕ) (f : Figures) : Type 0 where
   pub picture : Picture
   pub is : decodeFor (termsFor s np) body na nc ≡ accepted picture
   pub figures : picture .figures ≡ f
   pub many : length (picture .codes) ≡ f .«n_radials» * f .«n_bins»
-  pub declared : Declared
-  pub declares : d ≡ DeclaredScaleRead.Value declared
-  pub codes-room : f .«n_radials» * f .«n_bins» ≤ nc
-  pub physical-room : f .«n_radials» * f .«n_bins» ≤ np
+  pub admitted : Admitted d nc np f
 
-pub drawn : (s : Scaling) (d : DeclaredScaleRead) → declaredScaleOf d ≡ declaredScale s → (body : List ℕ) (na nc np : ℕ) {f : Figures}
+pub drawn : (s : Scaling) (d : Result Declared) → d ≡ declaredScale s → (body : List ℕ) (na nc np : ℕ) {f : Figures}
     → accepted f ≡ figuresIn (decodeFor (termsFor s np) body na nc) → Drawn s d body na nc np f
-unfolding decodeFor admit roomIn tooFew termsFor
+unfolding decodeFor
 drawn s d is body na nc np {f} e =
-    let g = given-figures (decodeFor (termsFor s np) body na nc) e in
+    let g = given-in (λ (p : Picture). p .figures) (decodeFor (termsFor s np) body na nc) e in
     let p = g .0 in
     through (pictureOf body) _ p (g .1) λ q eq e₁.
     through (admit (termsFor s np) na nc (q .figures)) _ p e₁ λ u ea e₂.
     let same = one-value e₂ in
-    passed (not (asked (packetsFor s) (q .figures .packet))) _ _ tt ea λ _ e₃.
-    passed-value d _ (rw (step-declared s, ← is) at e₃) λ declared ed e₄.
-    passed (ltb na (q .figures .«n_radials»)) _ _ tt e₄ λ _ e₅.
-    passed (ltb nc (q .figures .«n_radials» * q .figures .«n_bins»)) _ _ tt e₅ λ c e₆.
-    passed (ltb np (q .figures .«n_radials» * q .figures .«n_bins»)) _ _ tt e₆ λ v _.
     subst (Drawn s d body na nc np) (ap (λ (x : Picture). x .figures) same ∙ g .2)
     (record {
       picture = q;
       is = g .1 ∙ ap accepted (sym same);
       figures = refl;
       many = many body q eq;
-      declared = declared;
-      declares = ed;
-      codes-room = ltb-false _ _ c;
-      physical-room = ltb-false _ _ v;
+      admitted = admitted s d is na nc np (q .figures) ea;
     })
 
 -- the scale fields are read and there is room: the values are filled in
-fills : (scheme : Scheme) (file : List ℕ) (clock : ℕ) (h : Head) → headOf scheme file clock ≡ accepted h → (codes : List ℕ) (np : ℕ) → length codes ≤ np
+pub fills : (scheme : Scheme) (file : List ℕ) (clock : ℕ) (h : Head) → headOf scheme file clock ≡ accepted h → (codes : List ℕ) (np : ℕ) → length codes ≤ np
     → fillOf scheme file (h .block) codes np ≡ accepted (map (physicalOf scheme file (h .block)) codes)
 unfolding fillOf
 fills scheme file clock h e codes np room = rw (block-start scheme file clock h e .3, le-ltb np (length codes) room)
 
 -- ---- the answers
+
+module _ (h : Head) (f : Figures) {d : DeclaredScaleRead} {D : Result Declared} (k : declaredScaleOf d ≡ D) where
+  pub answer-refused : {e : Level3DecodeError} → d ≡ DeclaredScaleRead.Refused e → refused (refusalOf e) ≡ sweepWith h D f
+  answer-refused is = ap (λ y. sweepWith h y f) (ap declaredScaleOf (sym is) ∙ k)
+
+  pub answer-value : {declared : Declared} → d ≡ DeclaredScaleRead.Value declared → sweepWith h (accepted declared) f ≡ sweepWith h D f
+  answer-value is = ap (λ y. sweepWith h y f) (ap declaredScaleOf (sym is) ∙ k)
 
 module _ (scheme : Scheme) (file : List ℕ) (clock : ℕ) (body : List ℕ) (az : List Float) (cs : List ℕ) (ph : List Float) where
   abbrev Reads : SweepAnswer → List Float → List ℕ → List Float → Type 0
@@ -220,40 +237,40 @@ module _ (scheme : Scheme) (file : List ℕ) (clock : ℕ) (body : List ℕ) (az
   head-refused {x} e = let d : refused (refusalOf x) ≡ S = rw (← e) in told d refl refl refl refl
 
   -- the head is read, the terms are made of it, and the body is read on them
-  module _ (h : Head) (d : DeclaredScaleRead) (t : Terms) (eh : accepted h ≡ headOf scheme file clock) (ed : declaredScaleOf d ≡ declaredScale (h .scaling))
+  module _ (h : Head) (d : Result Declared) (t : Terms) (eh : accepted h ≡ headOf scheme file clock) (ed : d ≡ declaredScale (h .scaling))
       (et : t ≡ termsFor (h .scaling) (length ph)) where
     abbrev D : Result Picture
     D = decodeFor t body (length az) (length cs)
 
-    by-decode : S ≡ then D λ p. then (declaredScaleOf d) λ declared. accepted (swept scheme file h p declared)
+    by-decode : S ≡ then D λ p. then d λ declared. accepted (swept scheme file h p declared)
     unfolding sweepOf decodeFor
     by-decode = rw (← eh, et) (by (pictureOf body))
       where
         by : (z : Result Picture)
             → then z (finish scheme file (length az) (length cs) (length ph) h)
             ≡ then (then z λ p. then (admit (termsFor (h .scaling) (length ph)) (length az) (length cs) (p .figures)) λ _. accepted p)
-            λ p. then (declaredScaleOf d) λ declared. accepted (swept scheme file h p declared)
+            λ p. then d λ declared. accepted (swept scheme file h p declared)
         by (accepted p) = finish-is scheme file h (length az) (length cs) (length ph) d ed (block-start scheme file clock h (sym eh) .3) p
         by (refused x) = refl
 
     pub body-refused : {x : Level3DecodeError} {r : FiguresRead} {az' : List Float} {cs' : List ℕ} → r ≡ FiguresRead.Refused x
         → Decodes (decodeFor t body) az az' cs cs' r → Reads (SweepAnswer.Refused x) az' cs' ph
     body-refused {x} is w =
-        let z = refused-figures D (ap figuresOf (sym is) ∙ w .answered) in
+        let z = refused-in (λ (p : Picture). p .figures) D (ap figuresOf (sym is) ∙ w .answered) in
         let r : refused (refusalOf x) ≡ S = sym (by-decode ∙ rw z) in
         told r refl (w .azimuths ∙ ap (λ d. lent d (λ p. p .azimuths) az) z) (w .codes ∙ ap (λ d. lent d (λ p. p .codes) cs) z) refl
 
 -- ---- after symbology's entry has accepted
 
 -- The head h was read, the declared scale d and the terms t made of it, and the body read on them: it has the figures f.
-pub record Decoded (scheme : Scheme) (file : List ℕ) (clock : ℕ) (body : List ℕ) (az : List Float) (cs : List ℕ) (ph : List Float) (h : Head) (d : DeclaredScaleRead) (t : Terms) (f : Figures)
+pub record Decoded (scheme : Scheme) (file : List ℕ) (clock : ℕ) (body : List ℕ) (az : List Float) (cs : List ℕ) (ph : List Float) (h : Head) (d : Result Declared) (t : Terms) (f : Figures)
     : Type 0 where
   pub head-is : accepted h ≡ headOf scheme file clock
-  pub declared-is : declaredScaleOf d ≡ declaredScale (h .scaling)
+  pub declared-is : d ≡ declaredScale (h .scaling)
   pub terms-are : t ≡ termsFor (h .scaling) (length ph)
   pub figures-are : accepted f ≡ figuresIn (decodeFor t body (length az) (length cs))
 
-module _ {scheme : Scheme} {file : List ℕ} {clock : ℕ} {body : List ℕ} {az : List Float} {cs : List ℕ} {ph : List Float} {h : Head} {d : DeclaredScaleRead} {t : Terms} {f : Figures}
+module _ {scheme : Scheme} {file : List ℕ} {clock : ℕ} {body : List ℕ} {az : List Float} {cs : List ℕ} {ph : List Float} {h : Head} {d : Result Declared} {t : Terms} {f : Figures}
     (w : Decoded scheme file clock body az cs ph h d t f) where
   pub drawn-here : Drawn (h .scaling) d body (length az) (length cs) (length ph) f
   drawn-here =
@@ -262,10 +279,6 @@ module _ {scheme : Scheme} {file : List ℕ} {clock : ℕ} {body : List ℕ} {az
 
   drawn-is : decodeFor t body (length az) (length cs) ≡ accepted (drawn-here .picture)
   drawn-is = ap (λ x. decodeFor x body (length az) (length cs)) (w .terms-are) ∙ drawn-here .is
-
-  -- an answer of the code that can't be
-  pub scale-accepts : {C : Type 0} {e : Level3DecodeError} → d ≡ DeclaredScaleRead.Refused e → C
-  scale-accepts {C} {e} r = clash (drawn-here .declared) (refusalOf e) (ap declaredScaleOf (sym r ∙ drawn-here .declares))
 
   -- the buffer of codes then holds cs'
   module _ {cs' : List ℕ} (c : cs' ≡ lent (decodeFor t body (length az) (length cs)) (λ p. p .codes) cs) where
@@ -277,28 +290,26 @@ module _ {scheme : Scheme} {file : List ℕ} {clock : ℕ} {body : List ℕ} {az
     Fill = fillOf scheme file (h .block) (take (f .«n_radials» * f .«n_bins») cs') (length ph)
 
     same-codes : take (f .«n_radials» * f .«n_bins») cs' ≡ drawn-here .picture .codes
-    same-codes =
-        let p = drawn-here .picture .codes in
-        ap (take (f .«n_radials» * f .«n_bins»)) now-codes ∙ ap (λ n. take n (p ++ drop (length p) cs)) (sym (drawn-here .many)) ∙ take-append-seam p _
+    same-codes = front-is _ (drawn-here .picture .codes) cs now-codes (drawn-here .many)
 
     filled : Fill ≡ accepted (map (physicalOf scheme file (h .block)) (drawn-here .picture .codes))
     filled =
         ap (λ l. fillOf scheme file (h .block) l (length ph)) same-codes
-        ∙ fills scheme file clock h (sym (w .head-is)) (drawn-here .picture .codes) (length ph) (rw (drawn-here .many) (drawn-here .physical-room))
+        ∙ fills scheme file clock h (sym (w .head-is)) (drawn-here .picture .codes) (length ph) (rw (drawn-here .many) (drawn-here .admitted .physical-room))
 
-    -- another
+    -- an answer of the code that can't be
     pub fill-accepts : {C : Type 0} {x : Refusal} → _≡_ {A = Result (Unit {0})} (refused x) (then Fill λ _. accepted tt) → C
     fill-accepts {C} {x} e = clash tt x (e ∙ ap {B = Result (Unit {0})} (λ r. then r λ _. accepted tt) filled)
 
-    pub read : {declared : Declared} {az' ph' : List Float} → d ≡ DeclaredScaleRead.Value declared
+    pub read : {r : SweepAnswer} {az' ph' : List Float} → answerOf r ≡ sweepWith h d f
         → az' ≡ lent (decodeFor t body (length az) (length cs)) (λ p. p .azimuths) az → ph' ≡ lent Fill (λ values. values) ph
-        → Reads scheme file clock body az cs ph
-        (SweepAnswer.Accepted (record { token = h .token; fields = h .fields; time = h .time; declared = declared; figures = f })) az' cs' ph'
-    read {declared} is a v =
-        let r : accepted (swept scheme file h (drawn-here .picture) declared) ≡ S scheme file clock body az cs ph =
+        → Reads scheme file clock body az cs ph r az' cs' ph'
+    read i a v =
+        let is = drawn-here .admitted .declares in
+        let r : accepted (swept scheme file h (drawn-here .picture) (drawn-here .admitted .declared)) ≡ S scheme file clock body az cs ph =
         sym (by-decode scheme file clock body az cs ph h d t (w .head-is) (w .declared-is) (w .terms-are)
-        ∙ ap (λ z. then z λ p. then (declaredScaleOf d) λ declared. accepted (swept scheme file h p declared)) drawn-is
-        ∙ ap (λ y. then (declaredScaleOf y) λ declared. accepted (swept scheme file h (drawn-here .picture) declared)) is) in
+        ∙ ap (λ z. then z λ p. then d λ declared. accepted (swept scheme file h p declared)) drawn-is
+        ∙ ap (λ y. then y λ declared. accepted (swept scheme file h (drawn-here .picture) declared)) is) in
         told scheme file clock body az cs ph r
-        (ap (λ g. accepted (record { token = h .token; fields = h .fields; time = h .time; declared = declared; figures = g })) (sym (drawn-here .figures)))
+        (i ∙ ap (λ y. sweepWith h y f) is ∙ ap (sweepWith h (accepted (drawn-here .admitted .declared))) (sym (drawn-here .figures)))
         (a ∙ ap (λ r. lent r (λ p. p .azimuths) az) drawn-is) now-codes (v ∙ ap (λ r. lent r (λ values. values) ph) filled)

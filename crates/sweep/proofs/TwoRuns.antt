@@ -21,12 +21,12 @@ use Rattle.sweep.proofs.Parts.{sizes}
 use Rattle.sweep.proofs.Demand3.{passed-on, demand3}
 
 -- what a run left in the first places, where the sweep reading accepted with p
-record Left (f : Figures) (p : Accepted) (new : Buffers) : Type 0 where
-  azimuths : take (f .«n_radials») (new .azimuths) ≡ p .azimuths
-  codes : (r : ℕ) → r < f .«n_radials» → rowAt (f .«n_bins») r (new .codes) ≡ rowAt (f .«n_bins») r (p .codes)
-  physical : (r : ℕ) → r < f .«n_radials» → rowAt (f .«n_bins») r (new .physical) ≡ rowAt (f .«n_bins») r (p .physical)
+pub record Left (f : Figures) (p : Accepted) (new : Buffers) : Type 0 where
+  pub azimuths : take (f .«n_radials») (new .azimuths) ≡ p .azimuths
+  pub codes : (r : ℕ) → r < f .«n_radials» → rowAt (f .«n_bins») r (new .codes) ≡ rowAt (f .«n_bins») r (p .codes)
+  pub physical : (r : ℕ) → r < f .«n_radials» → rowAt (f .«n_bins») r (new .physical) ≡ rowAt (f .«n_bins») r (p .physical)
 
-left : (scheme : Scheme) (file : List ℕ) (clock : ℕ) (b : List ℕ) (old new : Buffers) (answer : SweepAnswer) (p : Accepted) → Ran scheme file clock b old new answer
+pub left : (scheme : Scheme) (file : List ℕ) (clock : ℕ) (b : List ℕ) (old new : Buffers) (answer : SweepAnswer) (p : Accepted) → Ran scheme file clock b old new answer
     → readInto scheme file clock b old ≡ accepted p → Left (p .sweep .figures) p new
 left scheme file clock b old new answer p ran e =
     let z = sizes scheme file clock b _ _ _ p e in
@@ -52,7 +52,7 @@ rows-left scheme file f b b' p p' new new' l l' k =
     }
 
 -- an answer that says that s is accepted
-answer-is : (answer : SweepAnswer) (s : Sweep) → answerOf answer ≡ accepted s → answer ≡ SweepAnswer.Accepted s
+pub answer-is : (answer : SweepAnswer) (s : Sweep) → answerOf answer ≡ accepted s → answer ≡ SweepAnswer.Accepted s
 answer-is (SweepAnswer.Accepted t) s e = let q : t ≡ s = cc in ap SweepAnswer.Accepted q
 answer-is (SweepAnswer.Refused x) s e = clash s _ e
 

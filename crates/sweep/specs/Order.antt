@@ -14,6 +14,8 @@ use Rattle.scale.specs.declared.physical.Declared.the-variants as Declared
 use Rattle.symbology.specs.Table.{two, oneRadial, generic, noList, twoXdrRadials}
 use Rattle.symbology.specs.declared.figures.Packet.the-variants.{Packet16}
 use Rattle.symbology.specs.declared.figures.Geometry.the-variants.{RangeScale}
+use Rattle.symbology.specs.declared.figures.Figures.{Figures}
+use Rattle.sweep.specs.declared.sweep.Sweep.{Sweep}
 use Rattle.sweep.specs.Sweep.{sweepOf}
 
 -- "N0BLOT" and a separator, a message header of code 94, and the fields 1 to 21 from byte 27 on: -1, zeros, and the day (field 12)
@@ -35,6 +37,26 @@ product = upTo21 1 ++ replicate 6 0
 abbrev pub body16 : List ℕ
 body16 = oneRadial 16 2 (2, 0, 10) (7 ∷ 9 ∷ [])
 
+-- what `product` gives beside the picture, under the class scheme
+abbrev pub plainSweep : Figures → Sweep
+plainSweep f =
+    record {
+      token = 0;
+      fields = record {
+        lat = f64 0 1;
+        lon = f64 0 1;
+        «height_m» = f64 0 1;
+        «product_code» = pos 0;
+        vcp = 0;
+        «scan_days» = 1;
+        «scan_seconds» = pos 0;
+        «elevation_deg» = f64 0 1;
+      };
+      time = 0;
+      declared = Declared.Absent;
+      figures = f;
+    }
+
 pub record Order : Type 0 where
   -- day 0 and a clock out of range, without field 22: 4
   pub time-before-scale : sweepOf Scheme.Halfword (upTo21 0) (2 ^ 40 + 1) [] 0 0 0 ≡ refused (kind 4 (nat 0 ∷ nat 0 ∷ []))
@@ -53,22 +75,7 @@ pub record Order : Type 0 where
   -- room enough
   pub all-passed : sweepOf Scheme.Class product 0 body16 1 2 2
       ≡ accepted (record {
-        sweep = record {
-          token = 0;
-          fields = record {
-            lat = f64 0 1;
-            lon = f64 0 1;
-            «height_m» = f64 0 1;
-            «product_code» = pos 0;
-            vcp = 0;
-            «scan_days» = 1;
-            «scan_seconds» = pos 0;
-            «elevation_deg» = f64 0 1;
-          };
-          time = 0;
-          declared = Declared.Absent;
-          figures = record { packet = Packet16; «n_radials» = 1; «n_bins» = 2; geometry = RangeScale 1 };
-        };
+        sweep = plainSweep (record { packet = Packet16; «n_radials» = 1; «n_bins» = 2; geometry = RangeScale 1 });
         azimuths = f64 5 10 ∷ [];
         codes = 7 ∷ 9 ∷ [];
         physical = f32 7 1 ∷ f32 9 1 ∷ [];

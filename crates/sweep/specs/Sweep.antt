@@ -13,6 +13,7 @@ use Rattle.bytes.specs.declared.error.Buffer.the-variants as Buffer
 use Rattle.head.specs.Header.{token, messageHeader, scanTime}
 use Rattle.head.specs.Pdb.{pdbFields}
 use Rattle.scale.specs.Physical.{scaleFields, declaredScale, physicalOf}
+use Rattle.scale.specs.declared.physical.Declared.{Declared}
 use Rattle.scale.specs.declared.physical.Scheme.{Scheme}
 use Rattle.scale.specs.declared.physical.Scheme.the-variants as Scheme
 use Rattle.scale.specs.declared.physical.Scaling.{Scaling}
@@ -102,6 +103,10 @@ answerOf (SweepAnswer.Refused e) = refused (refusalOf e)
 abbrev pub headReadOf : HeadRead → Result Head
 headReadOf (HeadRead.Value h) = accepted h
 headReadOf (HeadRead.Refused e) = refused (refusalOf e)
+
+-- what acceptance gives of a head, its declared scale and a picture's figures
+abbrev pub sweepWith : Head → Result Declared → Figures → Result Sweep
+sweepWith h d f = then d λ declared. accepted (record { token = h .token; fields = h .fields; time = h .time; declared = declared; figures = f })
 
 -- ---- a run of the code
 

@@ -1,3 +1,4 @@
 // The sweep reading: file bytes, clock, scheme and body to a picture in lent buffers.
 pub mod plan;
 pub mod sweep;
+pub mod with_gaps;

@@ -1,4 +1,5 @@
 // The sweep reading. Order: token, header, fields, scan time (4, 6, 5), scale fields, symbology, 10, 9, 36.
+use crate::plan::Head;
 use crate::plan::HeadRead;
 use bytes::error::Level3DecodeError;
 use head::pdb::PdbFields;
@@ -8,7 +9,9 @@ use scale::physical::Filled;
 use scale::physical::Scheme;
 use symbology::figures::Figures;
 use symbology::figures::FiguresRead;
-ghost use Rattle.sweep.specs.Sweep.{buffers, Ran};
+ghost use mathlib.Core.Path.{_≡_};
+ghost use Rattle.scale.specs.Physical.{declaredScale};
+ghost use Rattle.sweep.specs.Sweep.{answerOf, sweepWith, buffers, Ran};
 
 // What acceptance gives beside the picture. The token stands at `token` in the file: product there, site three bytes on.
 pub struct Sweep {
@@ -22,6 +25,24 @@ pub struct Sweep {
 pub enum SweepAnswer {
     Accepted(Sweep),
     Refused(Level3DecodeError),
+}
+
+// What acceptance gives of a head and a picture's figures.
+pub fn answer_of(head: Head, figures: Figures) -> SweepAnswer
+    ensures { λ r. ⌜ answerOf r ≡ sweepWith head (declaredScale (head .scaling)) figures ⌝ }
+{
+    let fields = head.fields;
+    let scaling = head.scaling;
+    match scale::physical::declared_scale(scaling) {
+        DeclaredScaleRead::Refused(e) => SweepAnswer::Refused(e),
+        DeclaredScaleRead::Value(declared) => SweepAnswer::Accepted(Sweep {
+            token: head.token,
+            fields,
+            time: head.time,
+            declared,
+            figures,
+        }),
+    }
 }
 
 // The sweep of a file and its unpacked body. Acceptance leaves the picture in the front of the buffers: the centres in degrees, the codes
@@ -43,9 +64,7 @@ pub fn read_sweep(
         HeadRead::Value(h) => h,
         HeadRead::Refused(e) => return SweepAnswer::Refused(e),
     };
-    let fields = head.fields;
     let scaling = head.scaling;
-    let read = scale::physical::declared_scale(scaling);
     let terms = crate::plan::terms_for(scaling, physical.len());
     let figures = match symbology::symbology::decode_for(body, terms, azimuths, codes) {
         FiguresRead::Value(f) => f,
@@ -56,14 +75,5 @@ pub fn read_sweep(
         Filled::Refused(e) => return SweepAnswer::Refused(e),
         Filled::Done => {}
     }
-    match read {
-        DeclaredScaleRead::Refused(e) => SweepAnswer::Refused(e),
-        DeclaredScaleRead::Value(declared) => SweepAnswer::Accepted(Sweep {
-            token: head.token,
-            fields,
-            time: head.time,
-            declared,
-            figures,
-        }),
-    }
+    answer_of(head, figures)
 }

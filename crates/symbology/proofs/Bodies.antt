@@ -15,13 +15,14 @@ use borrow.Author.Tests.{lt-ltb, le-ltb, ltb-true, ltb-false, ne-eqb}
 use Rattle.bytes.specs.Bytes.{u16At, u32At, i32At, signed}
 use Rattle.bytes.specs.Refusal.{Refusal, kind, nat, whole, item}
 use Rattle.bytes.specs.Result.{Result, accepted, refused}
-use Rattle.bytes.specs.Reading.{Read, give, _>>=_, _>>_, remaining, u16, u32, unread, refuse-if, run, Given, Ended, passed, halted, outcome, walk}
+use Rattle.bytes.specs.Reading.{Read, gaps, give, _>>=_, _>>_, remaining, u16, u32, unread, refuse-if, run, Given, Ended, passed, halted, outcome, walk}
 use Rattle.bytes.specs.declared.error.XdrItem.the-variants as Item
 use Rattle.bytes.proofs.Readings.{part-slice, past-test}
-use Rattle.bytes.proofs.Runs.{then-then, Plain, plain-then, plain-by, plain-give, plain-check, plain-remaining, plain-u16, plain-unread, run-passed, run-halted, shifted, run-within}
+use Rattle.bytes.proofs.Runs.{then-then, Plain, plain-then, plain-by, plain-give, plain-check, plain-remaining, plain-u16, plain-unread, shifted, run-within}
+use Rattle.symbology.proofs.Modes.{mode-stop, mode-passed, mode-halted, mode-checks}
 use Rattle.xdr.specs.Xdr.{atLeast0}
 use Rattle.symbology.specs.Symbology.{Sweep, Header, frame, radial, radialWalk, firstBin, isEmpty, overBody, packetHeader, radialPacket, payload, bodyShort, genericPacket, packetOf, symbology}
-use Rattle.symbology.specs.Walk.{beamSpan, anyFrame, anyRadial, anyWalk, firstOf, sweepFrom, Planned, Plotted, Plots, inPart, Plans}
+use Rattle.symbology.specs.Walk.{inMode, beamSpan, anyFrame, anyRadial, anyWalk, firstOf, sweepFrom, Planned, Plotted, Plots, inPart, Plans}
 use Rattle.symbology.proofs.Beams.{header-is}
 use Rattle.symbology.proofs.Levels.{signed-low, signed-high, u32-small}
 use Rattle.symbology.proofs.XdrRadials.{sweep-run}
@@ -35,22 +36,14 @@ use Rattle.symbology.specs.declared.spans.BodyPlan.{BodyPlan}
 
 -- ---- plans
 
-pub plots-as : (r : BodyPlan) (s : List ℕ) {R Q : Result (Given Sweep)} → R ≡ Q → Plots r s Q → Plots r s R
-plots-as r s e h = rw e h
+pub plots-as : (m : Bool) (r : BodyPlan) (s : List ℕ) {R Q : Result (Given Sweep)} → R ≡ Q → Plots m r s Q → Plots m r s R
+plots-as m r s e h = rw e h
 
 -- a plan of a part of the body
-plotted : {f : Figures} {at next from to : ℕ} {body : List ℕ} {R R' : Result (Given Sweep)} (p : Planned f at next (slice from to body) R) (end : ℕ) → from ≤ to → to ≤ length body
-    → R' ≡ accepted (record { value = record { figures = f; azimuths = p .radials .value }; next = end; rows = p .radials .rows }) → Plotted f from to at body R'
+plotted : {m : Bool} {f : Figures} {at next from to : ℕ} {body : List ℕ} {R R' : Result (Given Sweep)} (p : Planned m f at next (slice from to body) R) (end : ℕ) → from ≤ to → to ≤ length body
+    → R' ≡ accepted (record { value = record { figures = f; azimuths = p .radials .value }; next = end; rows = p .radials .rows }) → Plotted m f from to at body R'
 plotted p end o i w =
     record { radials = p .radials; end = end; small = p .small; cells = p .cells; ordered = o; inside = i; radials-are = p .radials-are; whole = w }
-
--- ---- a test in a run
-
-run-checks : {W A : Type 0} (b : Bool) (x : Refusal) (f : Unit {0} → Read W A) (s : List ℕ) (p : ℕ) {y : Result (Given A)} → run (f tt) s p ≡ y
-    → run (refuse-if b x >>= f) s p ≡ cond b (refused x) y
-unfolding run refuse-if _>>=_
-run-checks true x f s p h = refl
-run-checks false x f s p h = h
 
 -- ---- packets 16 and AF1F
 
@@ -73,7 +66,7 @@ plain-first Packet16 = plain-u16
 plain-first PacketAf1f = plain-by _ _ (plain-unread 2) (plain-give 0)
 plain-first Packet28 = plain-give 0
 
-plain-header : (packet : Packet) → Plain (packetHeader packet)
+pub plain-header : (packet : Packet) → Plain (packetHeader packet)
 unfolding packetHeader
 plain-header packet =
     plain-then _ (λ avail. plain-by _ _ (plain-check _ _) (plain-then _ (λ first. plain-then _ (λ bins. plain-by _ _ (plain-unread 4)
@@ -113,9 +106,9 @@ module _ (packet : Packet) (s : List ℕ) (old : packet ≡ Packet28 → ⊥) wh
           let b : h ≡ record { radials = u16At s 28; bins = u16At s 20; range = u16At s 26 } = cc in
           record { ends = ap (passed h) (sym a) ∙ e; radials-are = ap (λ x. x .radials) b; cells = rw b small }
 
-  pub radial-header-refused : {x : Refusal} → refused x ≡ outcome (walk (packetHeader packet) s 18) → refused x ≡ run (radialPacket packet) s 18
+  pub radial-header-refused : (m : Bool) {x : Refusal} → refused x ≡ outcome (walk (packetHeader packet) s 18) → refused x ≡ run (inMode m (radialPacket packet)) s 18
   unfolding radialPacket
-  radial-header-refused e = run-halted _ (packetHeader packet) (plain-header packet) s 18 (halt-of _ e .1)
+  radial-header-refused m e = mode-halted _ _ (packetHeader packet) (plain-header packet) s 18 (halt-of _ e .1)
 
   module _ {h : Header} (e : accepted h ≡ outcome (walk (packetHeader packet) s 18)) where
     headed : Headed packet s h
@@ -125,27 +118,27 @@ module _ (packet : Packet) (s : List ℕ) (old : packet ≡ Packet28 → ⊥) wh
     unfolding u16At
     radial-small bytes = (omega (arith, headed .radials-are, bytes 28, bytes 29), headed .cells)
 
-    radial-run : run (radialPacket packet) s 18 ≡ sweepFrom (figuresOf packet h) (run (anyWalk packet (h .radials) (h .bins) (h .radials) 0) s 30)
+    radial-run : (m : Bool) → run (inMode m (radialPacket packet)) s 18 ≡ sweepFrom (figuresOf packet h) (run (inMode m (anyWalk packet (h .radials) (h .bins) (h .radials) 0)) s 30)
     unfolding radialPacket
-    radial-run =
-        run-passed _ (packetHeader packet) (plain-header packet) s 18 (headed .ends)
-        ∙ ap (λ t. run {W = Unit {0}} (t >>= λ azimuths. give (record { figures = figuresOf packet h; azimuths = azimuths })) s 30) (walk-is packet (h .radials) (h .bins) (h .radials) 0 old)
-        ∙ sweep-run (Unit {0}) (figuresOf packet h) (anyWalk packet (h .radials) (h .bins) (h .radials) 0) s 30
+    radial-run m =
+        mode-passed _ _ (packetHeader packet) (plain-header packet) s 18 (headed .ends)
+        ∙ ap (λ t. run {W = Unit {0}} (inMode m (t >>= λ azimuths. give (record { figures = figuresOf packet h; azimuths = azimuths }))) s 30) (walk-is packet (h .radials) (h .bins) (h .radials) 0 old)
+        ∙ sweep-run (Unit {0}) m (figuresOf packet h) (anyWalk packet (h .radials) (h .bins) (h .radials) 0) s 30
 
     -- the part that holds the radials is the whole body
-    radial-plotted : {f : Figures} {at next : ℕ}
-        → Planned f at next s (sweepFrom (figuresOf packet h) (run (anyWalk packet (h .radials) (h .bins) (h .radials) 0) s 30))
-        → Plotted f 0 (length s) at s (run (radialPacket packet) s 18)
-    radial-plotted {f} {at} {next} p =
-        let q : Planned f at next (slice 0 (length s) s) (sweepFrom (figuresOf packet h) (run (anyWalk packet (h .radials) (h .bins) (h .radials) 0) s 30)) =
+    radial-plotted : {m : Bool} {f : Figures} {at next : ℕ}
+        → Planned m f at next s (sweepFrom (figuresOf packet h) (run (inMode m (anyWalk packet (h .radials) (h .bins) (h .radials) 0)) s 30))
+        → Plotted m f 0 (length s) at s (run (inMode m (radialPacket packet)) s 18)
+    radial-plotted {m} {f} {at} {next} p =
+        let q : Planned m f at next (slice 0 (length s) s) (sweepFrom (figuresOf packet h) (run (inMode m (anyWalk packet (h .radials) (h .bins) (h .radials) 0)) s 30)) =
         rw (take-length s) p in
-        plotted q (q .radials .next) (omega arith) (omega arith) (radial-run ∙ q .whole)
+        plotted q (q .radials .next) (omega arith) (omega arith) (radial-run m ∙ q .whole)
 
-    pub radial-plots : (r : PlanRead) → Plans r s (sweepFrom (figuresOf packet h) (run (anyWalk packet (h .radials) (h .bins) (h .radials) 0) s 30))
-        → Plots (inPart 0 (length s) r) s (run (radialPacket packet) s 18)
+    pub radial-plots : (m : Bool) (r : PlanRead) → Plans m r s (sweepFrom (figuresOf packet h) (run (inMode m (anyWalk packet (h .radials) (h .bins) (h .radials) 0)) s 30))
+        → Plots m (inPart 0 (length s) r) s (run (inMode m (radialPacket packet)) s 18)
     unfolding Plans Plots
-    radial-plots (PlanRead.Value f at next) k = radial-plotted k
-    radial-plots (PlanRead.Refused e) k = k ∙ sym radial-run
+    radial-plots m (PlanRead.Value f at next) k = radial-plotted k
+    radial-plots m (PlanRead.Refused e) k = k ∙ sym (radial-run m)
 
 -- ---- packet 28
 
@@ -170,22 +163,23 @@ inside-is size room h = go (ltZ size (pos 0)) h
     go false k = ltb-false _ _ k
 
 module _ (s : List ℕ) where
-  generic-is : run genericPacket s 18
+  generic-is : (m : Bool) → run (inMode m genericPacket) s 18
       ≡ cond (ltb (length s - 18) 6) (refused (kind 12 (nat (18 + (length s - 18)) ∷ [])))
       (cond (bodyShort (i32At s 20) (length s - 24)) (refused (kind 23 (item Item.PacketBody ∷ nat (length s - 24) ∷ nat (atLeast0 (i32At s 20)) ∷ [])))
-      (shifted 24 (run payload (slice 24 (24 + u32At s 20) s) 0)))
-  unfolding genericPacket remaining unread u32 run _>>=_ _>>_ i32At
-  generic-is = run-checks _ _ _ s 18 (run-checks _ _ _ s 24 (run-within tt payload s 24 (u32At s 20)))
+      (shifted 24 (run (inMode m payload) (slice 24 (24 + u32At s 20) s) 0)))
+  unfolding genericPacket remaining unread u32 run _>>=_ _>>_ i32At inMode gaps
+  generic-is true = mode-checks true _ _ _ s 18 (mode-checks true _ _ _ s 24 (run-within tt (gaps payload) s 24 (u32At s 20)))
+  generic-is false = mode-checks false _ _ _ s 18 (mode-checks false _ _ _ s 24 (run-within tt payload s 24 (u32At s 20)))
 
-  pub generic-cut : 18 ≤ length s → length s < 24 → refused (kind 12 (nat (length s) ∷ [])) ≡ run genericPacket s 18
-  generic-cut h k =
+  pub generic-cut : (m : Bool) → 18 ≤ length s → length s < 24 → refused (kind 12 (nat (length s) ∷ [])) ≡ run (inMode m genericPacket) s 18
+  generic-cut m h k =
       let e : 18 + (length s - 18) ≡ length s = omega arith in
       let t : length s - 18 < 6 = omega arith in
-      rw generic-is (simp (lt-ltb _ _ t, e))
+      rw (generic-is m) (simp (lt-ltb _ _ t, e))
 
   module _ (long : 24 ≤ length s) {size : ℤ} {need : ℕ} (si : size ≡ i32At s 20) (ne : need ≡ atLeast0 size) {short : Bool} (sh : short ≡ bodyShort size (length s - 24)) where
-    pub generic-short : short ≡ true → refused (kind 23 (item Item.PacketBody ∷ nat (length s - 24) ∷ nat need ∷ [])) ≡ run genericPacket s 18
-    generic-short h = let t : 6 ≤ length s - 18 = omega arith in rw (generic-is, ← si, ← ne, ← sh) (simp (le-ltb _ _ t, h))
+    pub generic-short : (m : Bool) → short ≡ true → refused (kind 23 (item Item.PacketBody ∷ nat (length s - 24) ∷ nat need ∷ [])) ≡ run (inMode m genericPacket) s 18
+    generic-short m h = let t : 6 ≤ length s - 18 = omega arith in rw (generic-is m, ← si, ← ne, ← sh) (simp (le-ltb _ _ t, h))
 
     module _ (enough : short ≡ false) where
       pub generic-inside : 24 + need ≤ length s
@@ -198,67 +192,72 @@ module _ (s : List ℕ) where
             ne ∙ ap atLeast0 si
             ∙ length-is (u32At s 20) (length s - 24) (u32-small s 20 (λ i. omega (arith, bytes i))) (ap (λ z. bodyShort z (length s - 24)) (sym si) ∙ sym sh ∙ enough)
 
-        generic-run : run genericPacket s 18 ≡ shifted 24 (run payload (slice 24 (24 + need) s) 0)
-        generic-run = let t : 6 ≤ length s - 18 = omega arith in rw (generic-is, need-is, ← si, ← sh) (simp (le-ltb _ _ t, enough))
+        generic-run : (m : Bool) → run (inMode m genericPacket) s 18 ≡ shifted 24 (run (inMode m payload) (slice 24 (24 + need) s) 0)
+        generic-run m = let t : 6 ≤ length s - 18 = omega arith in rw (generic-is m, need-is, ← si, ← sh) (simp (le-ltb _ _ t, enough))
 
         -- the part as the code has it
         part-is : take (24 + need - 24) (drop 24 s) ≡ slice 24 (24 + need) s
         part-is = part-slice s 24 (24 + need) (omega arith)
 
-        generic-refused : {x : Refusal} → refused x ≡ run payload (take (24 + need - 24) (drop 24 s)) 0 → refused x ≡ run genericPacket s 18
+        generic-refused : (m : Bool) {x : Refusal} → refused x ≡ run (inMode m payload) (take (24 + need - 24) (drop 24 s)) 0 → refused x ≡ run (inMode m genericPacket) s 18
         unfolding shifted
-        generic-refused h = ap (shifted 24) (h ∙ ap (λ l. run payload l 0) part-is) ∙ sym generic-run
+        generic-refused m h = ap (shifted 24) (h ∙ ap (λ l. run (inMode m payload) l 0) part-is) ∙ sym (generic-run m)
 
-        generic-plotted : {f : Figures} {at next : ℕ} → Planned f at next (take (24 + need - 24) (drop 24 s)) (run payload (take (24 + need - 24) (drop 24 s)) 0)
-            → Plotted f 24 (24 + need) at s (run genericPacket s 18)
+        generic-plotted : (m : Bool) {f : Figures} {at next : ℕ} → Planned m f at next (take (24 + need - 24) (drop 24 s)) (run (inMode m payload) (take (24 + need - 24) (drop 24 s)) 0)
+            → Plotted m f 24 (24 + need) at s (run (inMode m genericPacket) s 18)
         unfolding shifted
-        generic-plotted {f} {at} {next} p =
-            let q : Planned f at next (slice 24 (24 + need) s) (run payload (slice 24 (24 + need) s) 0) = rw part-is at p in
-            plotted q (24 + q .radials .next) (omega arith) generic-inside (generic-run ∙ ap (shifted 24) (q .whole))
+        generic-plotted m {f} {at} {next} p =
+            let q : Planned m f at next (slice 24 (24 + need) s) (run (inMode m payload) (slice 24 (24 + need) s) 0) = rw part-is at p in
+            plotted q (24 + q .radials .next) (omega arith) generic-inside (generic-run m ∙ ap (shifted 24) (q .whole))
 
-        pub generic-plots : (r : PlanRead) → Plans r (take (24 + need - 24) (drop 24 s)) (run payload (take (24 + need - 24) (drop 24 s)) 0)
-            → Plots (inPart 24 (24 + need) r) s (run genericPacket s 18)
+        pub generic-plots : (m : Bool) (r : PlanRead) → Plans m r (take (24 + need - 24) (drop 24 s)) (run (inMode m payload) (take (24 + need - 24) (drop 24 s)) 0)
+            → Plots m (inPart 24 (24 + need) r) s (run (inMode m genericPacket) s 18)
         unfolding Plans Plots
-        generic-plots (PlanRead.Value f at next) k = generic-plotted k
-        generic-plots (PlanRead.Refused e) k = generic-refused k
+        generic-plots m (PlanRead.Value f at next) k = generic-plotted m k
+        generic-plots m (PlanRead.Refused e) k = generic-refused m k
 
 -- ---- the body
 
-module _ (s : List ℕ) where
-  symbology-is : run symbology s 0
+module _ (m : Bool) (s : List ℕ) where
+  symbology-is : run (inMode m symbology) s 0
       ≡ cond (ltb (length s) 18) (refused (kind 12 (nat (length s) ∷ [])))
       (cond (not (eqb (u16At s 0) 65535 && eqb (u16At s 2) 1)) (refused (kind 13 (whole (signed 32768 (u16At s 0)) ∷ whole (signed 32768 (u16At s 2)) ∷ [])))
-      (run (packetOf (u16At s 16)) s 18))
-  unfolding symbology remaining unread u16 run _>>=_ _>>_
-  symbology-is =
-      let e : length s - 0 ≡ length s = omega arith in
-      rw (← e) (run-checks _ _ _ s 0 (run-checks _ _ _ s 4 refl))
+      (run (inMode m (packetOf (u16At s 16))) s 18))
+  unfolding symbology remaining unread u16 run _>>=_ _>>_ inMode gaps
+  symbology-is = let e : length s - 0 ≡ length s = omega arith in rw (← e) (by m)
+    where
+      by : (m : Bool) → run (inMode m symbology) s 0
+          ≡ cond (ltb (length s - 0) 18) (refused (kind 12 (nat (length s - 0) ∷ [])))
+          (cond (not (eqb (u16At s 0) 65535 && eqb (u16At s 2) 1)) (refused (kind 13 (whole (signed 32768 (u16At s 0)) ∷ whole (signed 32768 (u16At s 2)) ∷ [])))
+          (run (inMode m (packetOf (u16At s 16))) s 18))
+      by true = mode-checks true _ _ _ s 0 (mode-checks true _ _ _ s 4 refl)
+      by false = mode-checks false _ _ _ s 0 (mode-checks false _ _ _ s 4 refl)
 
-  pub body-cut : length s < 18 → refused (kind 12 (nat (length s) ∷ [])) ≡ run symbology s 0
+  pub body-cut : length s < 18 → refused (kind 12 (nat (length s) ∷ [])) ≡ run (inMode m symbology) s 0
   body-cut h = rw symbology-is (simp (lt-ltb _ _ h))
 
   module _ (long : 18 ≤ length s) {divider block : ℕ} (de : divider ≡ u16At s 0) (be : block ≡ u16At s 2) {header : Bool} (he : header ≡ (eqb divider 65535 && eqb block 1)) where
-    pub body-other : {d b : ℤ} → not header ≡ true → d ≡ signed 32768 divider → b ≡ signed 32768 block → refused (kind 13 (whole d ∷ whole b ∷ [])) ≡ run symbology s 0
+    pub body-other : {d b : ℤ} → not header ≡ true → d ≡ signed 32768 divider → b ≡ signed 32768 block → refused (kind 13 (whole d ∷ whole b ∷ [])) ≡ run (inMode m symbology) s 0
     body-other h k l = rw (symbology-is, ← de, ← be, ← he) (simp (le-ltb _ _ long, h, k, l))
 
     module _ (known : not header ≡ false) {code : ℕ} (ce : code ≡ u16At s 16) where
-      body-packet : run symbology s 0 ≡ run (packetOf code) s 18
+      body-packet : run (inMode m symbology) s 0 ≡ run (inMode m (packetOf code)) s 18
       body-packet = rw (symbology-is, ← de, ← be, ← he, ← ce) (simp (le-ltb _ _ long, known))
 
-      pub body-16 : code ≡ 16 → run symbology s 0 ≡ run (radialPacket Packet16) s 18
+      pub body-16 : code ≡ 16 → run (inMode m symbology) s 0 ≡ run (inMode m (radialPacket Packet16)) s 18
       unfolding packetOf
       body-16 h = body-packet ∙ rw h refl
 
       module _ (no16 : code ≡ 16 → ⊥) where
-        pub body-af1f : code ≡ 44831 → run symbology s 0 ≡ run (radialPacket PacketAf1f) s 18
+        pub body-af1f : code ≡ 44831 → run (inMode m symbology) s 0 ≡ run (inMode m (radialPacket PacketAf1f)) s 18
         unfolding packetOf
         body-af1f h = body-packet ∙ rw h refl
 
         module _ (noAf1f : code ≡ 44831 → ⊥) where
-          pub body-28 : code ≡ 28 → run symbology s 0 ≡ run genericPacket s 18
+          pub body-28 : code ≡ 28 → run (inMode m symbology) s 0 ≡ run (inMode m genericPacket) s 18
           unfolding packetOf
           body-28 h = body-packet ∙ rw h refl
 
-          pub body-unknown : {c : ℤ} → (code ≡ 28 → ⊥) → c ≡ signed 32768 code → refused (kind 14 (whole c ∷ [])) ≡ run symbology s 0
+          pub body-unknown : {c : ℤ} → (code ≡ 28 → ⊥) → c ≡ signed 32768 code → refused (kind 14 (whole c ∷ [])) ≡ run (inMode m symbology) s 0
           unfolding packetOf run
-          body-unknown h k = rw (body-packet) (simp (ne-eqb _ _ no16, ne-eqb _ _ noAf1f, ne-eqb _ _ h, k))
+          body-unknown h k = rw (body-packet) (simp (ne-eqb _ _ no16, ne-eqb _ _ noAf1f, ne-eqb _ _ h, mode-stop, k))

@@ -12,7 +12,7 @@ use Rattle.bytes.specs.Bytes.{u16At, u32At}
 use Rattle.bytes.specs.Refusal.{Refusal}
 use Rattle.bytes.specs.Result.{Result, accepted, refused}
 use Rattle.bytes.specs.Reading.{Read, give, stop, left, skip, number, data-row, within, Width, half, word, size, valueAt, Given, more, after-row, run, Frame, frames, Unread}
-use Rattle.bytes.proofs.Results.{clash}
+use Rattle.bytes.proofs.Results.{clash, one-value}
 use Rattle.symbology.specs.Damage.{noFrame, rowIn, dataIn, DataByte, radialCount, radialAt, Damage, Changed, MakesRow, Contained}
 
 -- ---- the two halves of a reading: what its structure gives, and the rows
@@ -317,7 +317,7 @@ module _ {W A : Type 0} where
             let h : i < min (p + k) (length s) - p = rw slice-length at lt in
             record { at = p + i; data-byte = (omega arith, omega arith); differs = λ e. ne (slice-getD s p k i (omega arith) ∙ e ∙ sym (slice-getD s' p k i (omega arith))) }
 
-    makes-or-changed : (r : ℕ) → r < radialCount t s → (rowIn (radialAt t s r) s' ≡ accepted (getD (g .rows) r [])) ⊎ Changed t s s' r
+    pub makes-or-changed : (r : ℕ) → r < radialCount t s → (rowIn (radialAt t s r) s' ≡ accepted (getD (g .rows) r [])) ⊎ Changed t s s' r
     makes-or-changed r h = ⊎-elim (λ e. inl (e ∙ accepted-rows t s g acc .1 r h)) inr (changed-or-same r)
 
     -- what the second body's rows decide
@@ -380,6 +380,15 @@ module _ {W A : Type 0} where
       (λ r lt u. ⊎-elim (λ m. let e = sym (a .each r lt) ∙ m in cc) (λ c. absurd (u c)) (makes-or-changed r lt)),
       λ r lt c. a .each r lt,
     )
+
+    -- the rows of a second body that is accepted
+    pub second-rows : (g' : Given A) → run t s' 0 ≡ accepted g' → (r : ℕ) → r < radialCount t s → rowIn (radialAt t s r) s' ≡ accepted (getD (g' .rows) r [])
+    unfolding radialAt radialCount
+    second-rows g' acc' r lt = by (outcome s' (frames t s 0))
+      where
+        by : AllRows s' (frames t s 0) ⊎ FirstBad s' (frames t s 0) → rowIn (getD (frames t s 0) r noFrame) s' ≡ accepted (getD (g' .rows) r [])
+        by (inl a) = a .each r lt ∙ ap (λ (x : Given A). accepted (getD (x .rows) r [])) (one-value (sym (all-rows a) ∙ acc'))
+        by (inr b) = clash g' (b .why) (sym (first-bad b) ∙ acc')
 
   -- Demand 3 for every reading.
   pub damage-contained : (t : Read W A) (s s' : List ℕ) (g : Given A) → run t s 0 ≡ accepted g → Damage t s s' → Contained t s s' g

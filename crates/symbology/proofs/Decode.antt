@@ -17,7 +17,7 @@ use Rattle.xdr.specs.Xdr.{atLeast0}
 use Rattle.bytes.specs.declared.error.Level3DecodeError.{Level3DecodeError}
 use Rattle.symbology.specs.Symbology.{Sweep, bodyShort, symbology}
 use Rattle.symbology.specs.Answers.{stepOf, Picture, joined, pictureOf, asked, roomIn, admit, decodeFor, figuresIn, figuresOf, Decodes}
-use Rattle.symbology.specs.Walk.{anyWalk, Plotted, Plots}
+use Rattle.symbology.specs.Walk.{inMode, anyWalk, Plotted, Plots}
 use Rattle.symbology.specs.declared.figures.Figures.{Figures}
 use Rattle.symbology.specs.declared.figures.Terms.{Terms}
 use Rattle.symbology.specs.declared.figures.FiguresRead.{FiguresRead}
@@ -39,14 +39,14 @@ module _ {y z : ℤ} (e : y ≡ z) (room : ℕ) where
 
 -- ---- a plan, once the code has matched it
 
-module _ (body : List ℕ) (R : Result (Given Sweep)) {r : BodyPlan} (plots : Plots r body R) where
+module _ (m : Bool) (body : List ℕ) (R : Result (Given Sweep)) {r : BodyPlan} (plots : Plots m r body R) where
   pub plan-refused : {e : Level3DecodeError} → r ≡ BodyPlan.Refused e → refused (refusalOf e) ≡ R
   unfolding Plots
-  plan-refused h = subst (λ x. Plots x body R) h plots
+  plan-refused h = subst (λ x. Plots m x body R) h plots
 
-  pub plan-value : {f : Figures} {from to at : ℕ} → r ≡ BodyPlan.Value f from to at → Plotted f from to at body R
+  pub plan-value : {f : Figures} {from to at : ℕ} → r ≡ BodyPlan.Value f from to at → Plotted m f from to at body R
   unfolding Plots
-  plan-value h = subst (λ x. Plots x body R) h plots
+  plan-value h = subst (λ x. Plots m x body R) h plots
 
 -- ---- the picture
 
@@ -54,20 +54,20 @@ abbrev drawn : Figures → Given (List Float) → Picture
 drawn f g = record { figures = f; azimuths = g .value; codes = joined (g .rows) }
 
 module _ (body : List ℕ) where
-  pub picture-refused : {x : Refusal} → refused x ≡ run symbology body 0 → refused x ≡ pictureOf body
-  unfolding pictureOf
+  pub picture-refused : {x : Refusal} → refused x ≡ run (inMode false symbology) body 0 → refused x ≡ pictureOf body
+  unfolding pictureOf inMode
   picture-refused h = rw (← h) refl
 
-  pub picture-is : {f : Figures} {from to at : ℕ} (p : Plotted f from to at body (run symbology body 0)) → accepted (drawn f (p .radials)) ≡ pictureOf body
-  unfolding pictureOf
+  pub picture-is : {f : Figures} {from to at : ℕ} (p : Plotted false f from to at body (run (inMode false symbology) body 0)) → accepted (drawn f (p .radials)) ≡ pictureOf body
+  unfolding pictureOf inMode
   picture-is p = rw (p .whole) refl
 
 -- the radials, in the part of the body that the code takes
-abbrev radialsIn : List ℕ → Figures → ℕ → ℕ → ℕ → Result (Given (List Float))
-radialsIn body f from to at = run (anyWalk (f .packet) (f .«n_radials») (f .«n_bins») (f .«n_radials») 0) (take (to - from) (drop from body)) at
+abbrev pub radialsIn : Bool → List ℕ → Figures → ℕ → ℕ → ℕ → Result (Given (List Float))
+radialsIn m body f from to at = run (inMode m (anyWalk (f .packet) (f .«n_radials») (f .«n_bins») (f .«n_radials») 0)) (take (to - from) (drop from body)) at
 
-pub radials-there : (body : List ℕ) {f : Figures} {from to at : ℕ} (p : Plotted f from to at body (run symbology body 0)) → radialsIn body f from to at ≡ accepted (p .radials)
-radials-there body {f} {from} {to} {at} p = rw (part-slice body from to (p .ordered)) (p .radials-are)
+pub radials-there : (m : Bool) (body : List ℕ) {f : Figures} {from to at : ℕ} {R : Result (Given Sweep)} (p : Plotted m f from to at body R) → radialsIn m body f from to at ≡ accepted (p .radials)
+radials-there m body {f} {from} {to} {at} p = rw (part-slice body from to (p .ordered)) (p .radials-are)
 
 -- ---- on terms
 
@@ -105,20 +105,20 @@ module _ (t : Terms) (body : List ℕ) (az : List Float) (cs : List ℕ) where
   abbrev Decoded : List Float → List ℕ → FiguresRead → Type 0
   Decoded az' cs' = Decodes (decodeFor t body) az az' cs cs'
 
-  pub decode-refused : {x : Level3DecodeError} → refused (refusalOf x) ≡ run symbology body 0 → Decoded az cs (FiguresRead.Refused x)
+  pub decode-refused : {x : Level3DecodeError} → refused (refusalOf x) ≡ run (inMode false symbology) body 0 → Decoded az cs (FiguresRead.Refused x)
   unfolding decodeFor
   decode-refused {x} h = let d : refused (refusalOf x) ≡ decodeFor t body (length az) (length cs) = rw (← picture-refused body h) refl in answered az cs d refl refl refl
 
-  module _ {f : Figures} {from to at : ℕ} (p : Plotted f from to at body (run symbology body 0)) where
+  module _ {f : Figures} {from to at : ℕ} (p : Plotted false f from to at body (run (inMode false symbology) body 0)) where
     pub decode-halted : {x : Level3DecodeError} → refused (refusalOf x) ≡ admit t (length az) (length cs) f → Decoded az cs (FiguresRead.Refused x)
     unfolding decodeFor
     decode-halted {x} h = let d : refused (refusalOf x) ≡ decodeFor t body (length az) (length cs) = rw (← picture-is body p, ← h) refl in answered az cs d refl refl refl
 
     pub decode-is : {az' : List Float} {cs' : List ℕ} → accepted tt ≡ admit t (length az) (length cs) f
-        → az' ≡ lent (radialsIn body f from to at) (λ g. g .value) az → cs' ≡ lent (radialsIn body f from to at) (λ g. joined (g .rows)) cs
+        → az' ≡ lent (radialsIn false body f from to at) (λ g. g .value) az → cs' ≡ lent (radialsIn false body f from to at) (λ g. joined (g .rows)) cs
         → Decoded az' cs' (FiguresRead.Value f)
     unfolding decodeFor
     decode-is h a c =
         let d : accepted (drawn f (p .radials)) ≡ decodeFor t body (length az) (length cs) = rw (← picture-is body p, ← h) refl in
-        let e = radials-there body p in
+        let e = radials-there false body p in
         answered az cs d refl (a ∙ ap (λ r. lent r (λ g. g .value) az) e) (c ∙ ap (λ r. lent r (λ g. joined (g .rows)) cs) e)

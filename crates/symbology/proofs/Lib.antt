@@ -13,6 +13,8 @@ pub mod LevelLoops
 pub mod Ending
 pub mod Beams
 pub mod XdrFrames
+pub mod Modes
+pub mod Frames
 pub mod Payload
 pub mod Containment
 pub mod Path
@@ -22,9 +24,14 @@ pub mod RowPlaces
 pub mod Circle
 pub mod Centres
 pub mod Words
+pub mod Gapped
+pub mod GapRows
+pub mod GapKinds
 pub mod Walking
 pub mod Writing
+pub mod Showing
 pub mod XdrRadials
 pub mod Table
 pub mod Decode
+pub mod GapDecode
 pub mod Bodies

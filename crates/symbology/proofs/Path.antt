@@ -12,7 +12,7 @@ use lib.ListN.{length, getD, take}
 use lib.Seq.{slice}
 use Rattle.bytes.specs.Refusal.{Refusal}
 use Rattle.bytes.specs.Result.{Result, accepted, refused}
-use Rattle.bytes.specs.Reading.{Read, Flat, give, stop, left, skip, number, data-row, within, size, valueAt, Given, more, after-row, run, Frame, frames, Unread, Piece, as-number, as-unread, as-data, pieces, _>>=_, refuse-if}
+use Rattle.bytes.specs.Reading.{Read, Flat, give, stop, left, skip, number, data-row, within, size, valueAt, Given, more, after-row, run, Frame, frames, Unread, Piece, as-number, as-unread, as-data, pieces, marked, gaps, _>>=_, refuse-if}
 use Rattle.symbology.specs.Places.{UnreadIn, dataPlaces}
 
 abbrev pub Post : Type 0 → Type 1
@@ -67,8 +67,9 @@ module _ {W A : Type 0} where
     pub unread : (i : ℕ) → Unread t s p i ↔ (UnreadIn (pieces t s p) p i ⊎ (past ≤ i))
     pub spans : dataPlaces (pieces t s p) p ≡ map span (frames t s p)
 
-  pub reached : (t : Read W A) (s : List ℕ) (p : ℕ) (P : Post A) (g : Given A) → Ends t s p P → run t s p ≡ accepted g → Reached t s p P (g .value)
-  unfolding Ends run frames pieces Unread UnreadIn dataPlaces
+  -- of all that is accepted, gaps or not
+  pub reached : (t : Read W A) (s : List ℕ) (p : ℕ) (P : Post A) (g : Given A) → Ends t s p P → run (gaps t) s p ≡ accepted g → Reached t s p P (g .value)
+  unfolding Ends gaps run frames pieces Unread UnreadIn dataPlaces
   reached (give a) s p P g h e =
       let q : _≡_ {A = Given A} (record { value = a; next = p; rows = [] }) g = cc in
       record { past = p; holds = subst (λ (x : Given A). P (x .value) p [] []) q h; unread = λ i. (inr, ⊎-elim (λ u. absurd u) (λ u. u)); spans = refl }
@@ -88,7 +89,7 @@ module _ {W A : Type 0} where
       let r = reached (f (valueAt w s p)) s (p + size w) (λ a e fs ps. P a e fs (as-number (size w) ∷ ps)) g h e in
       record { past = r .past; holds = r .holds; unread = r .unread; spans = r .spans }
   reached (data-row k row t) s p P g h e =
-      let o = after-row-value (row (slice p (p + k) s)) (run t s (p + k)) g e in
+      let o = after-row-value (accepted (marked (row (slice p (p + k) s)))) (run (gaps t) s (p + k)) g e in
       let r = reached t s (p + k) (λ a e fs ps. P a e (record { start = p; count = k; row = row } ∷ fs) (as-data k ∷ ps)) (o .0) (h .1) (o .1) in
       let c : min k (length s - p) ≡ k = omega (arith, h .0) in
       record {

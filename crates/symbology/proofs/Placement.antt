@@ -11,7 +11,8 @@ use lib.Dec.{eqb}
 use Rattle.bytes.specs.Bytes.{u16At, signed}
 use Rattle.bytes.specs.Refusal.{kind, whole}
 use Rattle.bytes.specs.Result.{accepted}
-use Rattle.bytes.specs.Reading.{stop, Given, run, Frame, frames, Piece, as-number, as-unread, as-data, pieces, _>>=_, _>>_, remaining, u16, unread, radial-data}
+use Rattle.bytes.specs.Reading.{stop, Given, run, Frame, frames, Piece, as-number, as-unread, as-data, pieces, gaps, _>>=_, _>>_, remaining, u16, unread, radial-data}
+use Rattle.bytes.proofs.Gaps.{all-whole, gaps-accepted}
 use Rattle.symbology.specs.declared.figures.Packet.{Packet}
 use Rattle.symbology.specs.declared.figures.Packet.the-variants.{Packet16, PacketAf1f, Packet28}
 use Rattle.symbology.specs.Rows.{rowOf}
@@ -212,7 +213,12 @@ module _ (b : List ℕ) (a : Sweep) (r : Reached symbology b 0 (Body b) a) where
   by-packet (inr (inl o)) = old-placed PacketAf1f no28' o
   by-packet (inr (inr o)) = new-placed o
 
-pub placed : (b : List ℕ) (g : Given Sweep) → run symbology b 0 ≡ accepted g → Placed b (g .value .figures)
-placed b g acc =
+-- of a body that is accepted with gaps, and so of one that is accepted
+pub gap-placed : (b : List ℕ) (g : Given Sweep) → run (gaps symbology) b 0 ≡ accepted g → Placed b (g .value .figures)
+gap-placed b g acc =
     let r = reached symbology b 0 (Body b) g (at-body b) acc in
     by-packet b (g .value) r (r .holds .one-of)
+
+pub placed : (b : List ℕ) (g : Given Sweep) → run symbology b 0 ≡ accepted g → Placed b (g .value .figures)
+unfolding all-whole
+placed b g acc = gap-placed b (all-whole g) (gaps-accepted symbology b 0 g acc)

@@ -37,7 +37,7 @@ rows-of-accepted b g acc =
 -- ---- a row's place among the codes
 
 -- where each row has `bins` codes, row r stands at r × bins, whatever comes after the rows
-row-place : (bins : ℕ) (rows : List (List ℕ)) (rest : List ℕ) → ((r : ℕ) → r < length rows → length (getD rows r []) ≡ bins)
+pub row-place : (bins : ℕ) (rows : List (List ℕ)) (rest : List ℕ) → ((r : ℕ) → r < length rows → length (getD rows r []) ≡ bins)
     → (r : ℕ) → r < length rows → take bins (drop (r * bins) (joined rows ++ rest)) ≡ getD rows r []
 unfolding joined
 row-place bins [] rest h r lt = absurd (not-suc-le-zero lt)
@@ -51,7 +51,7 @@ row-place bins (row ∷ rows) rest h (suc r) lt =
     (row-place bins rows rest (λ q l. h (suc q) (suc-le-suc l)) r (le-of-suc-le-suc lt))
 
 -- rows of one length, one after the other
-joined-long : (bins : ℕ) (rows : List (List ℕ)) → ((r : ℕ) → r < length rows → length (getD rows r []) ≡ bins) → length (joined rows) ≡ length rows * bins
+pub joined-long : (bins : ℕ) (rows : List (List ℕ)) → ((r : ℕ) → r < length rows → length (getD rows r []) ≡ bins) → length (joined rows) ≡ length rows * bins
 unfolding joined
 joined-long bins [] h = sym (zero-mul bins)
 joined-long bins (row ∷ rows) h =

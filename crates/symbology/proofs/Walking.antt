@@ -2,7 +2,7 @@
 use Prim.Native.Nat.{ℕ, suc, _+_, _*_, _-_, _≤_, _<_}
 use native.Mathlib.Numerals.{add-one}
 use native.Mathlib.Omega.{arith}
-use mathlib.Core.List.{List, _∷_}
+use mathlib.Core.List.{List, [], _∷_}
 use mathlib.Core.Bool.{Bool, true, false, _||_}
 use mathlib.Core.Path.{_≡_, refl, sym, ap, _∙_}
 use lib.ListN.{length, take, drop}
@@ -14,11 +14,13 @@ use Rattle.bytes.specs.Bytes.{u16At}
 use Rattle.bytes.specs.Refusal.{Refusal}
 use Rattle.bytes.specs.Result.{Result, accepted, refused, then}
 use Rattle.bytes.specs.Reading.{give, _>>=_, _>>_, radial-data, Ended, passed, halted, onward, past-row, walk}
-use Rattle.bytes.proofs.Readings.{walk-then, walk-give, then-passed, then-halted, part-slice, parts, past-test}
+use Rattle.bytes.proofs.Readings.{walk-give, then-passed, part-slice, parts, past-test}
+use Rattle.symbology.proofs.Modes.{mode-give, mode-radial, mode-walk-then, mode-walk-halted}
+use Rattle.symbology.proofs.Frames.{plain-frame}
 use Rattle.symbology.specs.Rows.{rowOf}
 use Rattle.symbology.specs.Places.{Enough}
 use Rattle.symbology.specs.Symbology.{covered, countWrong}
-use Rattle.symbology.specs.Walk.{Span, Place, expectedOf, beamSpan, xdrRadialSpan, anyFrame, anyRadial, anyWalk, placed, position, nextOf, endsAt, walkFrom}
+use Rattle.symbology.specs.Walk.{inMode, keptOf, Span, Place, expectedOf, beamSpan, xdrRadialSpan, anyFrame, anyRadial, anyWalk, placed, position, nextOf, endsAt, walkFrom}
 use Rattle.symbology.proofs.Beams.{beam-is}
 use Rattle.symbology.proofs.XdrFrames.{framed}
 use Rattle.symbology.specs.declared.figures.Packet.{Packet}
@@ -122,26 +124,28 @@ module _ (packet : Packet) (radials bins r : ℕ) (s : List ℕ) (p : ℕ) where
       go (halted x q) h k = let z : _≡_ {A = ℕ} 0 1 = cc in absurd (omega arith)
 
   -- a radial whose frame is refused, and one whose frame passed
-  pub radial-refused : {x : Refusal} → refused x ≡ placed (walk (anyFrame packet radials bins r) s p) → refused x ≡ position (walk (anyRadial packet radials bins r) s p)
+  pub radial-refused : (m : Bool) {x : Refusal} → refused x ≡ placed (walk (anyFrame packet radials bins r) s p) → refused x ≡ position (walk (inMode m (anyRadial packet radials bins r)) s p)
   unfolding anyRadial
-  radial-refused {x} e = go (walk (anyFrame packet radials bins r) s p) refl e
+  radial-refused m {x} e = go (walk (anyFrame packet radials bins r) s p) refl e
     where
-      go : (w : Ended Span) → walk (anyFrame packet radials bins r) s p ≡ w → refused x ≡ placed w → refused x ≡ position (walk (anyRadial packet radials bins r) s p)
+      go : (w : Ended Span) → walk (anyFrame packet radials bins r) s p ≡ w → refused x ≡ placed w → refused x ≡ position (walk (inMode m (anyRadial packet radials bins r)) s p)
       go (passed sp q) h k = let z : _≡_ {A = ℕ} 0 1 = cc in absurd (omega arith)
-      go (halted y q) h k = let l : x ≡ y = cc in ap refused l ∙ ap position (then-halted _ (anyFrame packet radials bins r) s p (sym h))
+      go (halted y q) h k = let l : x ≡ y = cc in ap refused l ∙ ap position (mode-walk-halted _ _ (anyFrame packet radials bins r) (plain-frame packet radials bins r) s p (sym h))
 
   module _ {a : Float} {from to : ℕ} (f : Found packet radials bins r s p a from to) where
     pub data-is : take (to - from) (drop from s) ≡ slice from (from + f .size) s
     data-is = let h : from ≤ to = omega (arith, f .to-is) in part-slice s from to h ∙ ap (λ k. slice from k s) (f .to-is)
 
-    after-frame : walk (anyRadial packet radials bins r) s p ≡ past-row (rowOf packet bins r (slice from (from + f .size) s)) (from + f .size) (passed a (from + f .size))
+    after-frame : (m : Bool) → walk (inMode m (anyRadial packet radials bins r)) s p ≡ past-row (keptOf m (rowOf packet bins r (slice from (from + f .size) s))) (from + f .size) (passed a (from + f .size))
     unfolding anyRadial radial-data walk _>>=_ _>>_
-    after-frame = then-passed _ (anyFrame packet radials bins r) s p (f .frame-is)
+    after-frame m =
+        ap (λ t. walk t s p) (mode-radial m _ _ _ (anyFrame packet radials bins r) (plain-frame packet radials bins r))
+        ∙ then-passed _ (anyFrame packet radials bins r) s p (f .frame-is)
 
     -- the row is tested on its own
-    pub radial-row : {c : Result (Unit {0})} → c ≡ then (rowOf packet bins r (take (to - from) (drop from s))) (λ _. accepted tt)
-        → then c (λ _. accepted to) ≡ position (walk (anyRadial packet radials bins r) s p)
-    radial-row {c} e = rw (e, data-is, after-frame, f .to-is) (go (rowOf packet bins r (slice from (from + f .size) s)))
+    pub radial-row : (m : Bool) {c : Result (Unit {0})} → c ≡ then (keptOf m (rowOf packet bins r (take (to - from) (drop from s)))) (λ _. accepted tt)
+        → then c (λ _. accepted to) ≡ position (walk (inMode m (anyRadial packet radials bins r)) s p)
+    radial-row m {c} e = rw (e, data-is, after-frame m, f .to-is) (go (keptOf m (rowOf packet bins r (slice from (from + f .size) s))))
       where
         go : (c : Result (List ℕ)) → then (then c (λ _. fine)) (λ _. accepted (from + f .size)) ≡ position (past-row c (from + f .size) (passed a (from + f .size)))
         go (accepted codes) = refl
@@ -149,52 +153,52 @@ module _ (packet : Packet) (radials bins r : ℕ) (s : List ℕ) (p : ℕ) where
 
 -- ---- n radials
 
-module _ (packet : Packet) (radials bins : ℕ) (s : List ℕ) where
-  walk-suc : (k r p : ℕ) → position (walk (anyWalk packet radials bins (suc k) r) s p)
-      ≡ then (position (walk (anyRadial packet radials bins r) s p)) (λ q. position (walk (anyWalk packet radials bins k (suc r)) s q))
+module _ (m : Bool) (packet : Packet) (radials bins : ℕ) (s : List ℕ) where
+  walk-suc : (k r p : ℕ) → position (walk (inMode m (anyWalk packet radials bins (suc k) r)) s p)
+      ≡ then (position (walk (inMode m (anyRadial packet radials bins r)) s p)) (λ q. position (walk (inMode m (anyWalk packet radials bins k (suc r))) s q))
   unfolding anyWalk walk
   walk-suc k r p =
-      ap position (walk-then (λ a. anyWalk packet radials bins k (suc r) >>= λ rest. give (a ∷ rest)) (anyRadial packet radials bins r) s p)
-      ∙ go (walk (anyRadial packet radials bins r) s p)
+      ap position (mode-walk-then m (λ a. anyWalk packet radials bins k (suc r) >>= λ rest. give (a ∷ rest)) (anyRadial packet radials bins r) s p)
+      ∙ go (walk (inMode m (anyRadial packet radials bins r)) s p)
     where
-      onto : (a : Float) (q : ℕ) → position (walk {W = ⊥} (anyWalk packet radials bins k (suc r) >>= λ rest. give (a ∷ rest)) s q) ≡ position (walk (anyWalk packet radials bins k (suc r)) s q)
-      onto a q = ap position (walk-then (λ rest. give (a ∷ rest)) (anyWalk packet radials bins k (suc r)) s q) ∙ same (walk (anyWalk packet radials bins k (suc r)) s q)
+      onto : (a : Float) (q : ℕ) → position (walk {W = ⊥} (inMode m (anyWalk packet radials bins k (suc r) >>= λ rest. give (a ∷ rest))) s q) ≡ position (walk (inMode m (anyWalk packet radials bins k (suc r))) s q)
+      onto a q = ap position (mode-walk-then m (λ rest. give (a ∷ rest)) (anyWalk packet radials bins k (suc r)) s q) ∙ same (walk (inMode m (anyWalk packet radials bins k (suc r))) s q)
         where
-          same : (w : Ended (List Float)) → position (onward w (λ rest m. passed (a ∷ rest) m)) ≡ position w
-          same (passed l m) = refl
-          same (halted x m) = refl
+          same : (w : Ended (List Float)) → position (onward w (λ rest q. walk {W = ⊥} (inMode m (give (a ∷ rest))) s q)) ≡ position w
+          same (passed l q) = ap (λ t. position (walk {W = ⊥} t s q)) (mode-give m (a ∷ l))
+          same (halted x q) = refl
 
-      go : (w : Ended Float) → position (onward w (λ a q. walk {W = ⊥} (anyWalk packet radials bins k (suc r) >>= λ rest. give (a ∷ rest)) s q))
-          ≡ then (position w) (λ q. position (walk (anyWalk packet radials bins k (suc r)) s q))
+      go : (w : Ended Float) → position (onward w (λ a q. walk {W = ⊥} (inMode m (anyWalk packet radials bins k (suc r) >>= λ rest. give (a ∷ rest))) s q))
+          ≡ then (position w) (λ q. position (walk (inMode m (anyWalk packet radials bins k (suc r))) s q))
       go (passed a q) = onto a q
       go (halted x q) = refl
 
   -- The checking walk: what is left of it says what the whole says.
   pub record Checked (whole : Result ℕ) (r at : ℕ) : Type 0 where
     pub number : r ≤ radials
-    pub left : walkFrom packet radials bins s r at ≡ whole
+    pub left : walkFrom m packet radials bins s r at ≡ whole
 
-  pub checked-from : (r at : ℕ) → r ≤ radials → Checked (walkFrom packet radials bins s r at) r at
+  pub checked-from : (r at : ℕ) → r ≤ radials → Checked (walkFrom m packet radials bins s r at) r at
   checked-from r at h = record { number = h; left = refl }
 
-  pub checked-first : (start : ℕ) → Checked (position (walk (anyWalk packet radials bins radials 0) s start)) 0 start
+  pub checked-first : (start : ℕ) → Checked (position (walk (inMode m (anyWalk packet radials bins radials 0)) s start)) 0 start
   checked-first start = let e : radials - 0 ≡ radials = omega arith in record { number = omega arith; left = rw e refl }
 
   module _ {whole : Result ℕ} {r at : ℕ} (inv : Checked whole r at) where
     -- one radial, refused or not
-    pub checked-turn : {c : Result ℕ} → r < radials → c ≡ position (walk (anyRadial packet radials bins r) s at)
-        → then c (λ q. walkFrom packet radials bins s (r + 1) q) ≡ whole
+    pub checked-turn : {c : Result ℕ} → r < radials → c ≡ position (walk (inMode m (anyRadial packet radials bins r)) s at)
+        → then c (λ q. walkFrom m packet radials bins s (r + 1) q) ≡ whole
     checked-turn {c} h k =
         let e : radials - r ≡ suc (radials - suc r) = omega arith in
         rw (k, add-one r)
-        (sym (walk-suc (radials - suc r) r at) ∙ ap (λ k. position (walk (anyWalk packet radials bins k r) s at)) (sym e) ∙ inv .left)
+        (sym (walk-suc (radials - suc r) r at) ∙ ap (λ k. position (walk (inMode m (anyWalk packet radials bins k r)) s at)) (sym e) ∙ inv .left)
 
-    pub checked-next : {q : ℕ} → r < radials → accepted q ≡ position (walk (anyRadial packet radials bins r) s at) → Checked whole (r + 1) q
+    pub checked-next : {q : ℕ} → r < radials → accepted q ≡ position (walk (inMode m (anyRadial packet radials bins r)) s at) → Checked whole (r + 1) q
     checked-next h k = record { number = omega arith; left = checked-turn h k }
 
     -- a stretch of radials, the last of which was refused or not
-    module _ {c : Result ℕ} (m : ℕ) (e : then c (λ q. walkFrom packet radials bins s m q) ≡ walkFrom packet radials bins s r at) where
-      pub checked-stretch : {q : ℕ} → m ≤ radials → c ≡ accepted q → Checked whole m q
+    module _ {c : Result ℕ} (n : ℕ) (e : then c (λ q. walkFrom m packet radials bins s n q) ≡ walkFrom m packet radials bins s r at) where
+      pub checked-stretch : {q : ℕ} → n ≤ radials → c ≡ accepted q → Checked whole n q
       checked-stretch h k = record { number = h; left = rw k at e ∙ inv .left }
 
       pub checked-stop : {x : Refusal} → c ≡ refused x → refused x ≡ whole
@@ -202,7 +206,9 @@ module _ (packet : Packet) (radials bins : ℕ) (s : List ℕ) where
 
     pub checked-end : radials ≤ r → accepted at ≡ whole
     unfolding anyWalk walk
-    checked-end h = let e : radials - r ≡ 0 = omega arith in sym (ap (λ k. position (walk (anyWalk packet radials bins k r) s at)) e) ∙ inv .left
+    checked-end h =
+        let e : radials - r ≡ 0 = omega arith in
+        sym (ap (λ t. position (walk {W = ⊥} t s at)) (mode-give m [])) ∙ sym (ap (λ k. position (walk (inMode m (anyWalk packet radials bins k r)) s at)) e) ∙ inv .left
 
 -- a radial that ended where it was guessed to end
 pub ends-there : (next : Next) (p : ℕ) → endsAt next p ≡ true → nextOf next ≡ accepted p

@@ -4,50 +4,27 @@ use native.Mathlib.Nat.{zero-mul, suc-mul, add-comm}
 use native.Mathlib.Numerals.{add-one}
 use native.Mathlib.Omega.{arith}
 use mathlib.Core.List.{List, [], _∷_, _++_, append-nil}
+use mathlib.Core.Bool.{Bool, true, false}
 use mathlib.Core.Path.{_≡_, refl, sym, ap, _∙_}
-use lib.ListN.{length, take, drop, set, length-append, length-take, length-drop}
+use lib.ListN.{length, take, drop, set, length-append, length-take, length-drop, length-replicate}
 use lib.Seq.{length-take-le}
 use lib.Ieee.{Float}
 use borrow.Rule.Slice.PartMut.{putMid, midOf}
 use Rattle.bytes.specs.Refusal.{Refusal}
 use Rattle.bytes.specs.Result.{Result, accepted, refused}
-use Rattle.bytes.specs.Reading.{_>>=_, _>>_, radial-data, more, after-row, run, Given, passed, walk}
-use Rattle.bytes.proofs.Runs.{Plain, plain-then, plain-by, plain-give, plain-check, plain-remaining, plain-u16, run-passed, run-parts, plain-passed}
+use Rattle.bytes.specs.Reading.{marked, give, _>>=_, _>>_, radial-data, more, after-row, run, Given, passed, walk}
+use Rattle.bytes.proofs.Runs.{run-passed, plain-passed}
+use Rattle.bytes.proofs.Results.{one-value}
+use Rattle.symbology.proofs.Modes.{mode-give, mode-plain, mode-radial, mode-parts}
 use Rattle.bytes.proofs.Parts.{Laid, laid-first, laid-end, laid-put, laid-set}
-use Rattle.xdr.proofs.Plains.{plain-pass, plain-int, plain-float, plain-string, plain-array-count}
-use Rattle.symbology.specs.Answers.{joined}
+use Rattle.symbology.specs.Answers.{joined, shown}
+use Rattle.symbology.specs.Places.{Enough}
 use Rattle.symbology.specs.Rows.{rowOf, codesOf, FullRow}
-use Rattle.symbology.specs.Symbology.{frame, xdrFrame}
-use Rattle.symbology.specs.Walk.{Span, beamSpan, xdrRadialSpan, anyFrame, anyRadial, anyWalk, placed, Accepted, firstRow, rowIn, centreIn}
+use Rattle.symbology.specs.Walk.{inMode, keptOf, cellsOf, codesIn, Span, anyFrame, anyRadial, anyWalk, placed, Accepted, firstRow, rowIn, centreIn}
 use Rattle.symbology.proofs.FullRow.{full-row}
+use Rattle.symbology.proofs.Frames.{plain-frame}
 use Rattle.symbology.proofs.Walking.{Found, data-is, spanned}
 use Rattle.symbology.specs.declared.figures.Packet.{Packet}
-use Rattle.symbology.specs.declared.figures.Packet.the-variants.{Packet16, PacketAf1f, Packet28}
-
--- ---- frames have no data of their own
-
-plain-beam : (packet : Packet) (radials bins r : ℕ) → Plain (beamSpan packet radials bins r)
-unfolding beamSpan frame
-plain-beam packet radials bins r =
-    plain-then _ (λ beam. plain-give _) _
-    (plain-then _ (λ avail. plain-by _ _ (plain-check _ _)
-    (plain-then _ (λ count. plain-then _ (λ start. plain-then _ (λ width. plain-by _ _ (plain-check _ _)
-    (plain-then _ (λ room. plain-by _ _ (plain-check _ _) (plain-give _)) _ plain-remaining)) _ plain-u16) _ plain-u16) _ plain-u16)) _ plain-remaining)
-
-pub plain-xdr-frame : (radials r : ℕ) (expected : ℕ → ℕ) → Plain (xdrFrame radials r expected)
-unfolding xdrFrame
-plain-xdr-frame radials r expected =
-    plain-then _ (λ azimuth. plain-by _ _ (plain-pass _ _)
-    (plain-then _ (λ width. plain-then _ (λ bins. plain-by _ _ plain-string
-    (plain-then _ (λ n.
-    plain-by _ _ (plain-check _ _) (plain-by _ _ (plain-check _ _) (plain-by _ _ (plain-check _ _) (plain-by _ _ (plain-check _ _) (plain-give _)))))
-    _ plain-array-count)) _ plain-int) _ plain-float)) _ plain-float
-
-pub plain-frame : (packet : Packet) (radials bins r : ℕ) → Plain (anyFrame packet radials bins r)
-unfolding anyFrame xdrRadialSpan
-plain-frame Packet16 radials bins r = plain-beam Packet16 radials bins r
-plain-frame PacketAf1f radials bins r = plain-beam PacketAf1f radials bins r
-plain-frame Packet28 radials bins r = plain-then _ (λ xdr. plain-give _) _ (plain-xdr-frame radials r _)
 
 -- ---- one radial
 
@@ -91,13 +68,54 @@ module _ (packet : Packet) (radials bins r : ℕ) (s : List ℕ) (p : ℕ) {a : 
     pub centre-written : accepted (a, to) ≡ centreIn (run (anyRadial packet radials bins r) s p)
     centre-written = let m = made (acc .0) (acc .1) in sym (ap centreIn (acc .1 ∙ ap accepted (m .given-is)))
 
+-- ---- with gaps
+
+pub shown-long : (bins : ℕ) (c : Result (List ℕ)) → ((codes : List ℕ) → c ≡ accepted codes → length codes ≡ bins) → length (shown bins (marked c)) ≡ bins
+unfolding shown
+shown-long bins (accepted codes) h = h codes refl
+shown-long bins (refused x) h = length-replicate bins 0
+
+module _ (packet : Packet) (radials bins r : ℕ) (s : List ℕ) (p : ℕ) {a : Float} {from to : ℕ} (f : Found packet radials bins r s p a from to) where
+  -- what a radial whose frame passed gives, a gap or not
+  pub gap-radial : run (inMode true (anyRadial packet radials bins r)) s p ≡ accepted (record { value = a; next = to; rows = marked (rowOf packet bins r (take (to - from) (drop from s))) ∷ [] })
+  unfolding anyRadial radial-data run _>>=_ _>>_ keptOf after-row more
+  gap-radial =
+      ap (λ t. run t s p) (mode-radial true _ _ _ (anyFrame packet radials bins r) (plain-frame packet radials bins r))
+      ∙ run-passed _ (anyFrame packet radials bins r) (plain-frame packet radials bins r) s p (f .frame-is)
+      ∙ rw (data-is packet radials bins r s p f, f .to-is) refl
+
+  -- its data are enough for a row
+  pub gap-enough : Enough packet bins (length (take (to - from) (drop from s)))
+  gap-enough = rw (data-long packet radials bins r s p f) (f .enough)
+
+  pub kept-row : (m : Bool) (g : Given Float) → run (inMode m (anyRadial packet radials bins r)) s p ≡ accepted g
+      → (row : List ℕ) × ((g .rows ≡ row ∷ []) × (length (cellsOf m bins row) ≡ bins))
+  unfolding inMode cellsOf
+  kept-row false g e =
+      let m = made packet radials bins r s p f g e in
+      (m .codes, (ap (λ x. x .rows) (m .given-is), full packet radials bins r s p f g m .2))
+  kept-row true g e =
+      let is = one-value (sym e ∙ gap-radial) in
+      (marked (rowOf packet bins r (take (to - from) (drop from s))), (ap (λ x. x .rows) is, shown-long bins (rowOf packet bins r (take (to - from) (drop from s))) (λ codes h. full-row packet bins r (take (to - from) (drop from s)) codes gap-enough h .2)))
+
+-- the codes of the rows
+codes-none : (m : Bool) (bins : ℕ) → codesIn m bins [] ≡ []
+unfolding codesIn joined
+codes-none true bins = refl
+codes-none false bins = refl
+
+codes-more : (m : Bool) (bins : ℕ) (row : List ℕ) (rows : List (List ℕ)) → codesIn m bins (row ∷ rows) ≡ cellsOf m bins row ++ codesIn m bins rows
+unfolding codesIn cellsOf joined
+codes-more true bins row rows = refl
+codes-more false bins row rows = refl
+
 -- a radial that is accepted has a frame
-pub frame-there : {A : Type 0} (packet : Packet) (radials bins r : ℕ) (s : List ℕ) (p : ℕ) {x : Refusal} → Accepted (run (anyRadial packet radials bins r) s p)
+pub frame-there : {A : Type 0} (m : Bool) (packet : Packet) (radials bins r : ℕ) (s : List ℕ) (p : ℕ) {x : Refusal} → Accepted (run (inMode m (anyRadial packet radials bins r)) s p)
     → refused x ≡ placed (walk (anyFrame packet radials bins r) s p) → A
 unfolding anyRadial
-frame-there packet radials bins r s p {x} acc e =
-    let a = run-parts _ (anyFrame packet radials bins r) s p (acc .1) in
-    let b = plain-passed (anyFrame packet radials bins r) (plain-frame packet radials bins r) s p (a .first-is) in
+frame-there m packet radials bins r s p {x} acc e =
+    let a = mode-parts m _ (anyFrame packet radials bins r) s p (acc .1) in
+    let b = plain-passed (anyFrame packet radials bins r) (plain-frame packet radials bins r) s p (ap (λ t. run t s p) (sym (mode-plain m (anyFrame packet radials bins r) (plain-frame packet radials bins r))) ∙ a .first-is) in
     let c = e ∙ sym (ap placed (b .0)) in
     absurd (let z : _≡_ {A = ℕ} 0 1 = cc in omega arith)
 
@@ -110,48 +128,43 @@ found-at packet radials bins r s p sp q e =
 
 -- ---- all radials
 
-module _ (packet : Packet) (radials bins : ℕ) (s : List ℕ) where
+module _ (m : Bool) (packet : Packet) (radials bins : ℕ) (s : List ℕ) where
   -- the next radial of an accepted walk, and the rest
-  record Turn (k r p : ℕ) (g : Given (List Float)) : Type 0 where
-    first : Given Float
-    rest : Given (List Float)
-    codes : List ℕ
-    first-is : run (anyRadial packet radials bins r) s p ≡ accepted first
-    rest-is : run (anyWalk packet radials bins k (suc r)) s (first .next) ≡ accepted rest
-    rows-are : first .rows ≡ codes ∷ []
-    long : length codes ≡ bins
-    value-is : g .value ≡ first .value ∷ rest .value
-    whole : g .rows ≡ codes ∷ rest .rows
+  pub record Turn (k r p : ℕ) (g : Given (List Float)) : Type 0 where
+    pub first : Given Float
+    pub rest : Given (List Float)
+    pub codes : List ℕ
+    pub first-is : run (inMode m (anyRadial packet radials bins r)) s p ≡ accepted first
+    pub rest-is : run (inMode m (anyWalk packet radials bins k (suc r))) s (first .next) ≡ accepted rest
+    pub rows-are : first .rows ≡ codes ∷ []
+    pub long : length (cellsOf m bins codes) ≡ bins
+    pub value-is : g .value ≡ first .value ∷ rest .value
+    pub whole : g .rows ≡ codes ∷ rest .rows
 
-  one-row : (r p : ℕ) (g : Given Float) → run (anyRadial packet radials bins r) s p ≡ accepted g → (codes : List ℕ) × ((g .rows ≡ codes ∷ []) × (length codes ≡ bins))
+  one-row : (r p : ℕ) (g : Given Float) → run (inMode m (anyRadial packet radials bins r)) s p ≡ accepted g → (row : List ℕ) × ((g .rows ≡ row ∷ []) × (length (cellsOf m bins row) ≡ bins))
   unfolding anyRadial
   one-row r p g e =
-      let a = run-parts _ (anyFrame packet radials bins r) s p e in
-      let b = plain-passed (anyFrame packet radials bins r) (plain-frame packet radials bins r) s p (a .first-is) in
-      by (found-at packet radials bins r s p (a .first .value) (a .first .next) (b .0))
-    where
-      by : {x : Float} {from to : ℕ} → Found packet radials bins r s p x from to → (codes : List ℕ) × ((g .rows ≡ codes ∷ []) × (length codes ≡ bins))
-      by f =
-          let m = made packet radials bins r s p f g e in
-          (m .codes, (ap (λ x. x .rows) (m .given-is), full packet radials bins r s p f g m .2))
+      let a = mode-parts m _ (anyFrame packet radials bins r) s p e in
+      let b = plain-passed (anyFrame packet radials bins r) (plain-frame packet radials bins r) s p (ap (λ t. run t s p) (sym (mode-plain m (anyFrame packet radials bins r) (plain-frame packet radials bins r))) ∙ a .first-is) in
+      kept-row packet radials bins r s p (found-at packet radials bins r s p (a .first .value) (a .first .next) (b .0)) m g e
 
-  turn : (k r p : ℕ) (g : Given (List Float)) → run (anyWalk packet radials bins (suc k) r) s p ≡ accepted g → Turn k r p g
+  pub turn : (k r p : ℕ) (g : Given (List Float)) → run (inMode m (anyWalk packet radials bins (suc k) r)) s p ≡ accepted g → Turn k r p g
   unfolding anyWalk run
   turn k r p g e =
-      let a = run-parts _ (anyRadial packet radials bins r) s p e in
-      let b = run-parts _ (anyWalk packet radials bins k (suc r)) s _ (a .second-is) in
+      let a = mode-parts m _ (anyRadial packet radials bins r) s p e in
+      let b = mode-parts m _ (anyWalk packet radials bins k (suc r)) s _ (a .second-is) in
       let o = one-row r p (a .first) (a .first-is) in
-      last (a .first) (a .second) (b .first) (b .second) (o .0) (a .first-is) (b .first-is) (o .1 .0) (o .1 .1) (a .whole) (b .whole) (b .second-is)
+      last (a .first) (a .second) (b .first) (b .second) (o .0) (a .first-is) (b .first-is) (o .1 .0) (o .1 .1) (a .whole) (b .whole) (sym (ap (λ t. run {W = ⊥} t s (b .first .next)) (mode-give m (a .first .value ∷ b .first .value))) ∙ b .second-is)
     where
-      last : (f : Given Float) (m l n : Given (List Float)) (codes : List ℕ) → run (anyRadial packet radials bins r) s p ≡ accepted f
-          → run (anyWalk packet radials bins k (suc r)) s (f .next) ≡ accepted l → f .rows ≡ codes ∷ [] → length codes ≡ bins
-          → g ≡ record { value = m .value; next = m .next; rows = f .rows ++ m .rows }
-          → m ≡ record { value = n .value; next = n .next; rows = l .rows ++ n .rows }
+      last : (f : Given Float) (w l n : Given (List Float)) (codes : List ℕ) → run (inMode m (anyRadial packet radials bins r)) s p ≡ accepted f
+          → run (inMode m (anyWalk packet radials bins k (suc r))) s (f .next) ≡ accepted l → f .rows ≡ codes ∷ [] → length (cellsOf m bins codes) ≡ bins
+          → g ≡ record { value = w .value; next = w .next; rows = f .rows ++ w .rows }
+          → w ≡ record { value = n .value; next = n .next; rows = l .rows ++ n .rows }
           → _≡_ {A = Result (Given (List Float))} (accepted (record { value = f .value ∷ l .value; next = l .next; rows = [] })) (accepted n) → Turn k r p g
-      last f m l n codes h₁ h₂ h₃ h₄ h₅ h₆ h₇ =
+      last f w l n codes h₁ h₂ h₃ h₄ h₅ h₆ h₇ =
           let i : _≡_ {A = Given (List Float)} (record { value = f .value ∷ l .value; next = l .next; rows = [] }) n = cc in
-          let v : m .value ≡ f .value ∷ l .value = ap (λ x. x .value) h₆ ∙ sym (ap (λ x. x .value) i) in
-          let w : m .rows ≡ l .rows = ap (λ x. x .rows) h₆ ∙ ap (λ x. l .rows ++ x) (sym (ap (λ x. x .rows) i)) ∙ append-nil (l .rows) in
+          let v : w .value ≡ f .value ∷ l .value = ap (λ x. x .value) h₆ ∙ sym (ap (λ x. x .value) i) in
+          let u : w .rows ≡ l .rows = ap (λ x. x .rows) h₆ ∙ ap (λ x. l .rows ++ x) (sym (ap (λ x. x .rows) i)) ∙ append-nil (l .rows) in
           record {
             first = f;
             rest = l;
@@ -161,35 +174,34 @@ module _ (packet : Packet) (radials bins : ℕ) (s : List ℕ) where
             rows-are = h₃;
             long = h₄;
             value-is = ap (λ x. x .value) h₅ ∙ v;
-            whole = ap (λ x. x .rows) h₅ ∙ rw (h₃, w) refl;
+            whole = ap (λ x. x .rows) h₅ ∙ rw (h₃, u) refl;
           }
 
-  none : (r p : ℕ) (g : Given (List Float)) → run (anyWalk packet radials bins 0 r) s p ≡ accepted g → g ≡ record { value = []; next = p; rows = [] }
+  pub none : (r p : ℕ) (g : Given (List Float)) → run (inMode m (anyWalk packet radials bins 0 r)) s p ≡ accepted g → g ≡ record { value = []; next = p; rows = [] }
   unfolding anyWalk run
-  none r p g e = cc
+  none r p g e = sym (one-value (sym (ap (λ t. run {W = ⊥} t s p) (mode-give m [])) ∙ e))
 
   -- as many centres as radials, and bins codes to each
-  lengths : (n r p : ℕ) (g : Given (List Float)) → run (anyWalk packet radials bins n r) s p ≡ accepted g → (length (g .value) ≡ n) × (length (joined (g .rows)) ≡ n * bins)
-  unfolding joined
+  pub lengths : (n r p : ℕ) (g : Given (List Float)) → run (inMode m (anyWalk packet radials bins n r)) s p ≡ accepted g → (length (g .value) ≡ n) × (length (codesIn m bins (g .rows)) ≡ n * bins)
   lengths zero r p g e =
       let h = none r p g e in
-      (ap (λ x. length (x .value)) h, ap (λ x. length (joined (x .rows))) h ∙ sym (zero-mul bins))
+      (ap (λ x. length (x .value)) h, ap (λ x. length (codesIn m bins (x .rows))) h ∙ ap length (codes-none m bins) ∙ sym (zero-mul bins))
   lengths (suc n) r p g e =
       let t = turn n r p g e in
       let i = lengths n (suc r) (t .first .next) (t .rest) (t .rest-is) in (
         ap length (t .value-is) ∙ ap suc (i .0),
-        ap (λ x. length (joined x)) (t .whole) ∙ length-append (t .codes) (joined (t .rest .rows)) ∙ rw (t .long, i .1, suc-mul) (add-comm _ _),
+        ap (λ x. length (codesIn m bins x)) (t .whole) ∙ ap length (codes-more m bins (t .codes) (t .rest .rows)) ∙ length-append (cellsOf m bins (t .codes)) (codesIn m bins (t .rest .rows)) ∙ rw (t .long, i .1, suc-mul) (add-comm _ _),
       )
 
   -- The invariant: radial r stands at `at`, and its row belongs at `cell`; what is left, laid from there, is the whole.
   pub record Written (g : Given (List Float)) (az₀ : List Float) (codes₀ : List ℕ) (az : List Float) (codes : List ℕ) (at cell r : ℕ) : Type 0 where
     pub number : r ≤ radials
     pub rest : Given (List Float)
-    pub rest-is : run (anyWalk packet radials bins (radials - r) r) s at ≡ accepted rest
+    pub rest-is : run (inMode m (anyWalk packet radials bins (radials - r) r)) s at ≡ accepted rest
     pub centres : Laid (g .value ++ drop (length (g .value)) az₀) (length az₀) az (rest .value) r
-    pub rows : Laid (joined (g .rows) ++ drop (length (joined (g .rows))) codes₀) (length codes₀) codes (joined (rest .rows)) cell
+    pub rows : Laid (codesIn m bins (g .rows) ++ drop (length (codesIn m bins (g .rows))) codes₀) (length codes₀) codes (codesIn m bins (rest .rows)) cell
 
-  pub written-first : (start : ℕ) (az : List Float) (codes : List ℕ) (acc : Accepted (run (anyWalk packet radials bins radials 0) s start))
+  pub written-first : (start : ℕ) (az : List Float) (codes : List ℕ) (acc : Accepted (run (inMode m (anyWalk packet radials bins radials 0)) s start))
       → radials ≤ length az → radials * bins ≤ length codes → Written (acc .0) az codes az codes start 0 0
   written-first start az codes acc h k =
       let e : radials - 0 ≡ radials = omega arith in
@@ -205,20 +217,19 @@ module _ (packet : Packet) (radials bins : ℕ) (s : List ℕ) where
   module _ {g : Given (List Float)} {az₀ : List Float} {codes₀ : List ℕ} {az : List Float} {codes : List ℕ} {at cell r : ℕ}
       (inv : Written g az₀ codes₀ az codes at cell r) where
     module _ (more : r < radials) where
-      here : Turn (radials - suc r) r at (inv .rest)
+      pub here : Turn (radials - suc r) r at (inv .rest)
       here = let e : radials - r ≡ suc (radials - suc r) = omega arith in turn (radials - suc r) r at (inv .rest) (rw e at (inv .rest-is))
 
       -- this radial is accepted, and there is room for it
-      pub written-radial : Accepted (run (anyRadial packet radials bins r) s at)
+      pub written-radial : Accepted (run (inMode m (anyRadial packet radials bins r)) s at)
       written-radial = (here .first, here .first-is)
 
       pub written-room : (r < length az) × (cell + bins ≤ length codes)
-      unfolding joined
       written-room =
           let t = here in
           let a : length (inv .rest .value) ≡ suc (length (t .rest .value)) = ap length (t .value-is) in
-          let b : length (joined (inv .rest .rows)) ≡ bins + length (joined (t .rest .rows)) =
-          ap (λ x. length (joined x)) (t .whole) ∙ length-append (t .codes) _ ∙ ap (λ x. x + length (joined (t .rest .rows))) (t .long) in
+          let b : length (codesIn m bins (inv .rest .rows)) ≡ bins + length (codesIn m bins (t .rest .rows)) =
+          ap (λ x. length (codesIn m bins x)) (t .whole) ∙ ap length (codes-more m bins (t .codes) (t .rest .rows)) ∙ length-append (cellsOf m bins (t .codes)) _ ∙ ap (λ x. x + length (codesIn m bins (t .rest .rows))) (t .long) in
           (omega (arith, inv .centres .long, inv .centres .room), omega (arith, inv .rows .long, inv .rows .room))
 
       -- the part that is lent has a row's length
@@ -227,32 +238,30 @@ module _ (packet : Packet) (radials bins : ℕ) (s : List ℕ) where
           let e : cell + bins - cell ≡ bins = omega arith in
           rw e (length-take-le bins (drop cell codes) (omega (arith, written-room .1, length-drop cell codes)))
 
-      pub written-next : {a : Float} {next : ℕ} {row : List ℕ} → accepted (a, next) ≡ centreIn (run (anyRadial packet radials bins r) s at)
-          → row ≡ rowIn (run (anyRadial packet radials bins r) s at)
+      pub written-next : {a : Float} {next : ℕ} {row : List ℕ} → accepted (a, next) ≡ centreIn (run (inMode m (anyRadial packet radials bins r)) s at)
+          → row ≡ cellsOf m bins (rowIn (run (inMode m (anyRadial packet radials bins r)) s at))
           → Written g az₀ codes₀ (set az r a) (putMid cell (cell + bins - cell) codes row) next (cell + bins) (r + 1)
-      unfolding joined
       written-next {a} {next} {row} e k =
           let t = here in
           let c = e ∙ ap centreIn (t .first-is) in
           let pe : _≡_ {A = Float × ℕ} (a, next) (t .first .value, t .first .next) = cc in
           let ca : a ≡ t .first .value = ap (λ x. x .0) pe in
           let cn : next ≡ t .first .next = ap (λ x. x .1) pe in
-          let ro : row ≡ t .codes = k ∙ ap rowIn (t .first-is) ∙ ap firstRow (t .rows-are) in
+          let ro : row ≡ cellsOf m bins (t .codes) = k ∙ ap (λ x. cellsOf m bins (rowIn x)) (t .first-is) ∙ ap (λ x. cellsOf m bins (firstRow x)) (t .rows-are) in
           let n : radials - (r + 1) ≡ radials - suc r = omega arith in
           record {
             number = omega arith;
             rest = t .rest;
             rest-is = rw (n, add-one r, cn) (t .rest-is);
             centres = laid-set (t .first .value) (t .rest .value) a (rw (t .value-is) at (inv .centres)) ca;
-            rows = laid-put (t .codes) (joined (t .rest .rows)) row bins (rw (t .whole) at (inv .rows)) (t .long) ro;
+            rows = laid-put (cellsOf m bins (t .codes)) (codesIn m bins (t .rest .rows)) row bins (rw (codes-more m bins (t .codes) (t .rest .rows)) at (rw (t .whole) at (inv .rows))) (t .long) ro;
           }
 
-    none-left : radials ≤ r → inv .rest ≡ record { value = []; next = at; rows = [] }
+    pub none-left : radials ≤ r → inv .rest ≡ record { value = []; next = at; rows = [] }
     none-left h = let e : radials - r ≡ 0 = omega arith in none r at (inv .rest) (rw e at (inv .rest-is))
 
     pub written-centres : radials ≤ r → az ≡ g .value ++ drop (length (g .value)) az₀
     written-centres h = laid-end (rw (ap (λ x. x .value) (none-left h)) at (inv .centres))
 
-    pub written-rows : radials ≤ r → codes ≡ joined (g .rows) ++ drop (length (joined (g .rows))) codes₀
-    unfolding joined
-    written-rows h = laid-end (rw (ap (λ x. x .rows) (none-left h)) at (inv .rows))
+    pub written-rows : radials ≤ r → codes ≡ codesIn m bins (g .rows) ++ drop (length (codesIn m bins (g .rows))) codes₀
+    written-rows h = laid-end (rw (ap (λ x. codesIn m bins (x .rows)) (none-left h) ∙ codes-none m bins) at (inv .rows))

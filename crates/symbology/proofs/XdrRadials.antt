@@ -2,7 +2,7 @@
 use Prim.Native.Nat.{ℕ, zero, suc, _+_, _*_, _-_, _<_}
 use native.Mathlib.Omega.{arith}
 use mathlib.Core.List.{List, [], _∷_, append-nil}
-use mathlib.Core.Bool.{true, false, not}
+use mathlib.Core.Bool.{Bool, true, false, not}
 use mathlib.Core.Path.{_≡_, refl, sym, ap, ap₂, _∙_}
 use lib.Seq.{slice}
 use lib.Ieee.{Float}
@@ -11,12 +11,13 @@ use Rattle.bytes.specs.Refusal.{Refusal}
 use Rattle.bytes.specs.Result.{Result, accepted, refused}
 use Rattle.bytes.specs.Reading.{Flat, give, _>>=_, after-row, run, Given, Ended, passed, halted, walk}
 use Rattle.bytes.proofs.Readings.{walk-give, then-passed, then-halted, passed-check}
-use Rattle.bytes.proofs.Runs.{then-then, run-then, prepend, and-then, same-first, same-first-by, past-check, same-last, row-passed, row-halted}
+use Rattle.bytes.proofs.Runs.{then-then, prepend, and-then, same-first, same-first-by, past-check}
+use Rattle.symbology.proofs.Modes.{mode-give, mode-run-then, mode-same-last, mode-row-passed, mode-row-halted}
 use Rattle.symbology.specs.Rows.{rowOf}
 use Rattle.symbology.specs.Symbology.{Sweep, XdrRadial, xdrFrame, xdrRadial, xdrWalk, xdrRadials}
-use Rattle.symbology.specs.Walk.{expectedOf, xdrRadialSpan, anyFrame, anyRadial, anyWalk, sweepFrom}
+use Rattle.symbology.specs.Walk.{inMode, keptOf, expectedOf, xdrRadialSpan, anyFrame, anyRadial, anyWalk, sweepFrom}
 use Rattle.symbology.proofs.XdrFrames.{framed}
-use Rattle.symbology.proofs.Writing.{plain-xdr-frame, plain-frame}
+use Rattle.symbology.proofs.Frames.{plain-xdr-frame, plain-frame}
 use Rattle.symbology.specs.declared.figures.Figures.{Figures}
 use Rattle.symbology.specs.declared.figures.Packet.the-variants.{Packet28}
 use Rattle.symbology.specs.declared.figures.Geometry.the-variants.{Gates}
@@ -30,38 +31,38 @@ module _ (radials bins r : ℕ) (s : List ℕ) (p : ℕ) where
   unfolding anyFrame xdrRadialSpan
   span-passed e = sym (then-passed _ (xdrFrame radials r (expectedOf false bins)) s p e ∙ walk-give _ s _)
 
-  module _ {B : Type 0} (e : ℕ → ℕ) (f : XdrRadial → Flat B) (g : Float → Flat B) where
+  module _ {B : Type 0} (m : Bool) (e : ℕ → ℕ) (f : XdrRadial → Flat B) (g : Float → Flat B) where
     radial-passed : {xdr : XdrRadial} {q : ℕ} → passed xdr q ≡ walk (xdrFrame radials r e) s p → passed xdr q ≡ walk (xdrFrame radials r (expectedOf false bins)) s p
-        → xdr .bins ≡ bins → ((m : ℕ) → run (f xdr) s m ≡ run (g (xdr .centre)) s m)
-        → run (xdrRadial radials r e >>= f) s p ≡ run (anyRadial Packet28 radials bins r >>= g) s p
+        → xdr .bins ≡ bins → ((n : ℕ) → run (inMode m (f xdr)) s n ≡ run (inMode m (g (xdr .centre))) s n)
+        → run (inMode m (xdrRadial radials r e >>= f)) s p ≡ run (inMode m (anyRadial Packet28 radials bins r >>= g)) s p
     unfolding xdrRadial anyRadial
     radial-passed {xdr} {q} h k b l =
-        row-passed _ _ (λ x. x) f (xdrFrame radials r e) (plain-xdr-frame radials r e) s p h
-        ∙ ap₂ (λ n y. after-row (rowOf Packet28 n r (slice q (q + xdr .bins * 4) s)) y) b (l (q + xdr .bins * 4))
-        ∙ sym (row-passed (λ x. x .size) _ _ g (anyFrame Packet28 radials bins r) (plain-frame Packet28 radials bins r) s p (span-passed k))
+        mode-row-passed _ _ _ (λ x. x) f (xdrFrame radials r e) (plain-xdr-frame radials r e) s p h
+        ∙ ap₂ (λ n y. after-row (keptOf m (rowOf Packet28 n r (slice q (q + xdr .bins * 4) s))) y) b (l (q + xdr .bins * 4))
+        ∙ sym (mode-row-passed _ (λ x. x .size) _ _ g (anyFrame Packet28 radials bins r) (plain-frame Packet28 radials bins r) s p (span-passed k))
 
-  module _ {B : Type 0} (f : XdrRadial → Flat B) (g : Float → Flat B) where
+  module _ {B : Type 0} (m : Bool) (f : XdrRadial → Flat B) (g : Float → Flat B) where
     radial-halted : {x : Refusal} {q : ℕ} → halted x q ≡ walk (xdrFrame radials r (expectedOf false bins)) s p
-        → run (xdrRadial radials r (expectedOf false bins) >>= f) s p ≡ run (anyRadial Packet28 radials bins r >>= g) s p
+        → run (inMode m (xdrRadial radials r (expectedOf false bins) >>= f)) s p ≡ run (inMode m (anyRadial Packet28 radials bins r >>= g)) s p
     unfolding xdrRadial anyRadial anyFrame xdrRadialSpan
     radial-halted h =
-        sym (row-halted _ _ (λ x. x) f (xdrFrame radials r (expectedOf false bins)) (plain-xdr-frame radials r _) s p h)
-        ∙ row-halted (λ x. x .size) _ _ g (anyFrame Packet28 radials bins r) (plain-frame Packet28 radials bins r) s p
+        sym (mode-row-halted _ _ _ (λ x. x) f (xdrFrame radials r (expectedOf false bins)) (plain-xdr-frame radials r _) s p h)
+        ∙ mode-row-halted _ (λ x. x .size) _ _ g (anyFrame Packet28 radials bins r) (plain-frame Packet28 radials bins r) s p
         (then-halted _ (xdrFrame radials r (expectedOf false bins)) s p h)
 
 -- ---- the radials after the first
 
-further : (radials bins : ℕ) (s : List ℕ) (n r p : ℕ) → run (xdrWalk radials bins n r) s p ≡ run (anyWalk Packet28 radials bins n r) s p
+further : (m : Bool) (radials bins : ℕ) (s : List ℕ) (n r p : ℕ) → run (inMode m (xdrWalk radials bins n r)) s p ≡ run (inMode m (anyWalk Packet28 radials bins n r)) s p
 unfolding xdrWalk anyWalk expectedOf
-further radials bins s zero r p = refl
-further radials bins s (suc n) r p = go (further radials bins s n (suc r)) (walk (xdrFrame radials r (expectedOf false bins)) s p) refl
+further m radials bins s zero r p = refl
+further m radials bins s (suc n) r p = go (further m radials bins s n (suc r)) (walk (xdrFrame radials r (expectedOf false bins)) s p) refl
   where
-    go : ((m : ℕ) → run (xdrWalk radials bins n (suc r)) s m ≡ run (anyWalk Packet28 radials bins n (suc r)) s m) → (w : Ended XdrRadial)
-        → walk (xdrFrame radials r (expectedOf false bins)) s p ≡ w → run (xdrWalk radials bins (suc n) r) s p ≡ run (anyWalk Packet28 radials bins (suc n) r) s p
+    go : ((q : ℕ) → run (inMode m (xdrWalk radials bins n (suc r))) s q ≡ run (inMode m (anyWalk Packet28 radials bins n (suc r))) s q) → (w : Ended XdrRadial)
+        → walk (xdrFrame radials r (expectedOf false bins)) s p ≡ w → run (inMode m (xdrWalk radials bins (suc n) r)) s p ≡ run (inMode m (anyWalk Packet28 radials bins (suc n) r)) s p
     go rest-is (passed xdr q) h =
-        radial-passed radials bins r s p (expectedOf false bins) _ _ (sym h) (sym h) (framed radials r (expectedOf false bins) s p xdr q (sym h) .bins-are)
-        (λ m. same-last (λ rest. give (xdr .centre ∷ rest)) (xdrWalk radials bins n (suc r)) (anyWalk Packet28 radials bins n (suc r)) s m (rest-is m))
-    go rest-is (halted x q) h = radial-halted radials bins r s p _ _ (sym h)
+        radial-passed radials bins r s p m (expectedOf false bins) _ _ (sym h) (sym h) (framed radials r (expectedOf false bins) s p xdr q (sym h) .bins-are)
+        (λ q. mode-same-last _ (λ rest. give (xdr .centre ∷ rest)) (xdrWalk radials bins n (suc r)) (anyWalk Packet28 radials bins n (suc r)) s q (rest-is q))
+    go rest-is (halted x q) h = radial-halted radials bins r s p m _ _ (sym h)
 
 -- ---- the first radial
 
@@ -82,32 +83,32 @@ own-bins radials s p {xdr} {q} =
 
 -- ---- the sweep
 
-pub sweep-run : (W : Type 0) (figures : Figures) (t : Flat (List Float)) (s : List ℕ) (p : ℕ)
-    → run {W = W} (t >>= λ azimuths. give (record { figures = figures; azimuths = azimuths })) s p ≡ sweepFrom figures (run t s p)
+pub sweep-run : (W : Type 0) (m : Bool) (figures : Figures) (t : Flat (List Float)) (s : List ℕ) (p : ℕ)
+    → run {W = W} (inMode m (t >>= λ azimuths. give (record { figures = figures; azimuths = azimuths }))) s p ≡ sweepFrom figures (run (inMode m t) s p)
 unfolding run and-then prepend
-sweep-run W figures t s p = run-then _ t s p ∙ go (run t s p)
+sweep-run W m figures t s p = mode-run-then _ _ t s p ∙ go (run (inMode m t) s p)
   where
-    go : (r : Result (Given (List Float))) → and-then r (λ azimuths q. accepted (record { value = record { figures = figures; azimuths = azimuths }; next = q; rows = [] })) ≡ sweepFrom figures r
-    go (accepted g) = ap (λ rows. accepted (record { value = record { figures = figures; azimuths = g .value }; next = g .next; rows = rows })) (append-nil (g .rows))
+    go : (r : Result (Given (List Float))) → and-then r (λ azimuths q. run {W = W} (inMode m (give (record { figures = figures; azimuths = azimuths }))) s q) ≡ sweepFrom figures r
+    go (accepted g) = ap (λ t. prepend (g .rows) (run {W = W} t s (g .next))) (mode-give m _) ∙ ap (λ rows. accepted (record { value = record { figures = figures; azimuths = g .value }; next = g .next; rows = rows })) (append-nil (g .rows))
     go (refused x) = refl
 
-module _ (radials : ℕ) (gateWidth firstGate : Float) (s : List ℕ) (p : ℕ) where
+module _ (m : Bool) (radials : ℕ) (gateWidth firstGate : Float) (s : List ℕ) (p : ℕ) where
   -- the first frame is refused
-  pub radials-refused : {x : Refusal} {q : ℕ} → halted x q ≡ walk (xdrFrame radials 0 (expectedOf true 0)) s p → refused x ≡ run (xdrRadials radials gateWidth firstGate) s p
+  pub radials-refused : {x : Refusal} {q : ℕ} → halted x q ≡ walk (xdrFrame radials 0 (expectedOf true 0)) s p → refused x ≡ run (inMode m (xdrRadials radials gateWidth firstGate)) s p
   unfolding xdrRadials xdrRadial expectedOf
-  radials-refused e = row-halted _ _ (λ x. x) _ (xdrFrame radials 0 (expectedOf true 0)) (plain-xdr-frame radials 0 _) s p e
+  radials-refused e = mode-row-halted _ _ _ (λ x. x) _ (xdrFrame radials 0 (expectedOf true 0)) (plain-xdr-frame radials 0 _) s p e
 
   -- the first frame passes: the sweep is the one walk's
   pub radials-are : {xdr : XdrRadial} {q : ℕ} → 0 < radials → passed xdr q ≡ walk (xdrFrame radials 0 (expectedOf true 0)) s p
-      → run (xdrRadials radials gateWidth firstGate) s p
-      ≡ sweepFrom (record { packet = Packet28; «n_radials» = radials; «n_bins» = xdr .bins; geometry = Gates gateWidth firstGate }) (run (anyWalk Packet28 radials (xdr .bins) radials 0) s p)
+      → run (inMode m (xdrRadials radials gateWidth firstGate)) s p
+      ≡ sweepFrom (record { packet = Packet28; «n_radials» = radials; «n_bins» = xdr .bins; geometry = Gates gateWidth firstGate }) (run (inMode m (anyWalk Packet28 radials (xdr .bins) radials 0)) s p)
   unfolding xdrRadials anyWalk expectedOf _>>=_
   radials-are {xdr} h e =
       let n : radials ≡ suc (radials - 1) = omega (arith, h) in
-      radial-passed radials (xdr .bins) 0 s p (expectedOf true 0) _ _ e (own-bins radials s p e) refl after-first
-      ∙ ap (λ t. run t s p) (sym (then-then _ sweep (anyRadial Packet28 radials (xdr .bins) 0)))
-      ∙ sweep-run ⊥ figures (anyWalk Packet28 radials (xdr .bins) (suc (radials - 1)) 0) s p
-      ∙ ap (λ k. sweepFrom figures (run (anyWalk Packet28 radials (xdr .bins) k 0) s p)) (sym n)
+      radial-passed radials (xdr .bins) 0 s p m (expectedOf true 0) _ _ e (own-bins radials s p e) refl after-first
+      ∙ ap (λ t. run (inMode m t) s p) (sym (then-then _ sweep (anyRadial Packet28 radials (xdr .bins) 0)))
+      ∙ sweep-run ⊥ m figures (anyWalk Packet28 radials (xdr .bins) (suc (radials - 1)) 0) s p
+      ∙ ap (λ k. sweepFrom figures (run (inMode m (anyWalk Packet28 radials (xdr .bins) k 0)) s p)) (sym n)
     where
       figures : Figures
       figures = record { packet = Packet28; «n_radials» = radials; «n_bins» = xdr .bins; geometry = Gates gateWidth firstGate }
@@ -121,7 +122,7 @@ module _ (radials : ℕ) (gateWidth firstGate : Float) (s : List ℕ) (p : ℕ) 
       add : List Float → Flat (List Float)
       add rest = give (xdr .centre ∷ rest)
 
-      after-first : (m : ℕ) → run (xdrWalk radials (xdr .bins) (radials - 1) 1 >>= λ rest. sweep (xdr .centre ∷ rest)) s m ≡ run (others >>= add >>= sweep) s m
-      after-first m =
-          same-last _ (xdrWalk radials (xdr .bins) (radials - 1) 1) others s m (further radials (xdr .bins) s (radials - 1) 1 m)
-          ∙ ap (λ t. run t s m) (sym (then-then add sweep others))
+      after-first : (q : ℕ) → run (inMode m (xdrWalk radials (xdr .bins) (radials - 1) 1 >>= λ rest. sweep (xdr .centre ∷ rest))) s q ≡ run (inMode m (others >>= add >>= sweep)) s q
+      after-first q =
+          mode-same-last _ _ (xdrWalk radials (xdr .bins) (radials - 1) 1) others s q (further m radials (xdr .bins) s (radials - 1) 1 q)
+          ∙ ap (λ t. run (inMode m t) s q) (sym (then-then add sweep others))

@@ -1,15 +1,15 @@
 -- What the entries answer, and what they leave in lent buffers.
-use Prim.Native.Nat.{ℕ, _*_}
-use mathlib.Core.List.{List, [], _∷_, _++_}
+use Prim.Native.Nat.{ℕ, zero, suc, _*_}
+use mathlib.Core.List.{List, [], _∷_, _++_, map}
 use mathlib.Core.Bool.{Bool, true, false, not}
 use mathlib.Core.Path.{_≡_}
 use lib.Dec.{ltb}
-use lib.ListN.{length}
+use lib.ListN.{length, getD, replicate}
 use lib.Ieee.{Float, le}
 use Rattle.bytes.specs.Float.{f32}
 use Rattle.bytes.specs.Refusal.{kind, float, buffer, refusalOf}
 use Rattle.bytes.specs.Result.{Result, accepted, refused, refuse, then, lent}
-use Rattle.bytes.specs.Reading.{run}
+use Rattle.bytes.specs.Reading.{run, gaps}
 use Rattle.bytes.specs.declared.error.Buffer.the-variants as Buffer
 use Rattle.symbology.specs.Symbology.{symbology}
 use Rattle.symbology.specs.declared.figures.Figures.{Figures}
@@ -107,3 +107,50 @@ pub record Decodes (d : ℕ → ℕ → Result Picture) (az az' : List Float) (c
   pub answered : figuresOf answer ≡ figuresIn (d (length az) (length cs))
   pub azimuths : az' ≡ lent (d (length az) (length cs)) (λ p. p .azimuths) az
   pub codes : cs' ≡ lent (d (length az) (length cs)) (λ p. p .codes) cs
+
+-- ---- the reading with gaps
+
+-- The picture with gaps, and a mark for each radial: 1 where its data make no row, else 0.
+pub record GapPicture : Type 0 where
+  pub picture : Picture
+  pub marks : List ℕ
+
+-- of a row as the reading with gaps gives it: its mark
+abbrev pub markOf : List ℕ → ℕ
+markOf row = getD row 0 0
+
+-- and its codes; a gap has n_bins codes 0
+unfoldable pub shown : ℕ → List ℕ → List ℕ
+shown bins [] = []
+shown bins (zero ∷ codes) = codes
+shown bins (suc mark ∷ codes) = replicate bins 0
+
+unfoldable pub gapPictureOf : List ℕ → Result GapPicture
+gapPictureOf body =
+    then (run (gaps symbology) body 0) λ g.
+    accepted (record {
+      picture = record {
+        figures = g .value .figures;
+        azimuths = g .value .azimuths;
+        codes = joined (map (shown (g .value .figures .«n_bins»)) (g .rows));
+      };
+      marks = map markOf (g .rows);
+    })
+
+-- the same on terms; 36 of the mark buffer (`nm` places) is last
+unfoldable pub gapDecodeFor : Terms → List ℕ → ℕ → ℕ → ℕ → Result GapPicture
+gapDecodeFor t body na nc nm =
+    then (gapPictureOf body) λ p.
+    then (admit t na nc (p .picture .figures)) λ _.
+    refuse (ltb nm (p .picture .figures .«n_radials»)) (kind 36 (buffer Buffer.Marks ∷ []))
+    (accepted p)
+
+abbrev pub gapFiguresIn : Result GapPicture → Result Figures
+gapFiguresIn r = then r λ p. accepted (p .picture .figures)
+
+-- A reading d with gaps, by the lengths of three lent buffers that held az, cs and ms: the answer, and what they hold after it.
+pub record DecodesWithGaps (d : ℕ → ℕ → ℕ → Result GapPicture) (az az' : List Float) (cs cs' ms ms' : List ℕ) (answer : FiguresRead) : Type 0 where
+  pub answered : figuresOf answer ≡ gapFiguresIn (d (length az) (length cs) (length ms))
+  pub azimuths : az' ≡ lent (d (length az) (length cs) (length ms)) (λ p. p .picture .azimuths) az
+  pub codes : cs' ≡ lent (d (length az) (length cs) (length ms)) (λ p. p .picture .codes) cs
+  pub marks : ms' ≡ lent (d (length az) (length cs) (length ms)) (λ p. p .marks) ms

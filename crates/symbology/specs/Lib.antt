@@ -11,3 +11,4 @@ pub mod Walk
 pub mod Damage
 pub mod Places
 pub mod Words
+pub mod Gaps

@@ -1,20 +1,22 @@
 -- The walk over the radials as the code goes, one for all packets; it is the reading's (proofs/Bodies.antt `walk-is`, XdrRadials.antt
 -- `radials-are`). No public contract cites this file.
 use Prim.Native.Nat.{ℕ, zero, suc, _+_, _*_, _-_, _/_, _%_, _≤_}
-use mathlib.Core.List.{List, [], _∷_}
+use mathlib.Core.List.{List, [], _∷_, map}
 use mathlib.Core.Path.{_≡_}
 use mathlib.Core.Bool.{Bool, true, false, not}
 use lib.Dec.{eqb}
-use lib.ListN.{length}
+use lib.ListN.{length, set}
 use lib.Seq.{slice}
 use lib.Ieee.{Float}
 use Rattle.bytes.specs.Refusal.{refusalOf, kind, nat}
 use Rattle.bytes.specs.Bytes.{u16At}
 use Rattle.bytes.specs.Result.{Result, accepted, refused, then}
-use Rattle.bytes.specs.Reading.{Read, Flat, give, remaining, _>>=_, _>>_, radial-data, refuse-if, run, walk, Given, Ended, passed, halted, onward, reached}
+use Rattle.bytes.specs.Reading.{Read, Flat, gaps, marked, give, remaining, _>>=_, _>>_, radial-data, refuse-if, run, walk, Given, Ended, passed, halted, onward, reached}
 use Rattle.xdr.specs.Xdr.{pointer, elements}
 use Rattle.symbology.specs.Centre.{centre}
-use Rattle.symbology.specs.Rows.{rowOf}
+use Rattle.symbology.specs.Rows.{rowOf, codesOf, FullRow}
+use Rattle.symbology.specs.Answers.{joined, shown, markOf, decodeFor, gapDecodeFor, Decodes, DecodesWithGaps}
+use Rattle.symbology.specs.Places.{Enough}
 use Rattle.symbology.specs.Symbology.{Sweep, Header, XdrRadial, covered, frame, xdrFrame, Gates28, component, only}
 use Rattle.symbology.specs.declared.figures.Packet.{Packet}
 use Rattle.symbology.specs.declared.figures.Packet.the-variants.{Packet16, PacketAf1f, Packet28}
@@ -28,12 +30,70 @@ use Rattle.symbology.specs.declared.spans.PlanRead.the-variants as PlanR
 use Rattle.symbology.specs.declared.spans.BodyPlan.{BodyPlan}
 use Rattle.symbology.specs.declared.spans.BodyPlan.the-variants as BodyPlan
 use Rattle.symbology.specs.declared.figures.Figures.{Figures}
+use Rattle.symbology.specs.declared.figures.Terms.{Terms}
+use Rattle.symbology.specs.declared.figures.FiguresRead.{FiguresRead}
 use Rattle.symbology.specs.declared.radials.HeaderRead.{HeaderRead}
 use Rattle.symbology.specs.declared.radials.HeaderRead.the-variants as HeaderRead
 use Rattle.symbology.specs.declared.spans.SpanRead.{SpanRead}
 use Rattle.symbology.specs.declared.spans.SpanRead.the-variants as SpanRead
 use Rattle.symbology.specs.declared.spans.Next.{Next}
 use Rattle.symbology.specs.declared.spans.Next.the-variants as Next
+
+-- ---- with gaps and without
+
+-- a reading, or the same with gaps
+unfoldable pub inMode : {W A : Type 0} → Bool → Read W A → Read W A
+inMode true t = gaps t
+inMode false t = t
+
+-- what it has for a radial's row
+unfoldable pub keptOf : Bool → Result (List ℕ) → Result (List ℕ)
+keptOf true row = accepted (marked row)
+keptOf false row = row
+
+-- the codes that are written for it, and for all rows
+unfoldable pub cellsOf : Bool → ℕ → List ℕ → List ℕ
+cellsOf true bins row = shown bins row
+cellsOf false bins row = row
+
+unfoldable pub codesIn : Bool → ℕ → List (List ℕ) → List ℕ
+codesIn true bins rows = joined (map (shown bins) rows)
+codesIn false bins rows = joined rows
+
+-- and the marks
+unfoldable pub marksIn : Bool → List (List ℕ) → List ℕ
+marksIn true rows = map markOf rows
+marksIn false rows = []
+
+-- what data are lent for: to be shown, or for a row that they make
+unfoldable pub Ready : Bool → Packet → ℕ → List ℕ → Type 0
+Ready true packet bins bytes = Enough packet bins (length bytes)
+Ready false packet bins bytes = FullRow packet bins bytes
+
+-- the cells that they get, and the mark
+unfoldable pub cellsFrom : Bool → Packet → ℕ → ℕ → List ℕ → List ℕ
+cellsFrom true packet bins r bytes = shown bins (marked (rowOf packet bins r bytes))
+cellsFrom false packet bins r bytes = codesOf packet bins bytes
+
+unfoldable pub markFrom : Bool → Packet → ℕ → ℕ → List ℕ → ℕ
+markFrom true packet bins r bytes = markOf (marked (rowOf packet bins r bytes))
+markFrom false packet bins r bytes = 0
+
+-- a radial's mark, and the marks with it put in its place
+unfoldable pub markIn : Bool → List ℕ → ℕ
+markIn true row = markOf row
+markIn false row = 0
+
+unfoldable pub putMark : Bool → List ℕ → ℕ → ℕ → List ℕ
+putMark true marks r mark = set marks r mark
+putMark false marks r mark = marks
+
+-- the reading of a body on terms, with gaps or without
+unfoldable pub DecodesIn : Bool → Terms → List ℕ → List Float → List Float → List ℕ → List ℕ → List ℕ → List ℕ → FiguresRead → Type 0
+DecodesIn true t body az az' cs cs' ms ms' answer = DecodesWithGaps (gapDecodeFor t body) az az' cs cs' ms ms' answer
+DecodesIn false t body az az' cs cs' ms ms' answer = Decodes (decodeFor t body) az az' cs cs' answer
+
+-- ---- the radials
 
 -- a radial's centre, and how many bytes its data have
 pub record Span : Type 0 where
@@ -104,8 +164,8 @@ endsAt (Next.At q) p = eqb q p
 endsAt (Next.Refused e) p = false
 
 -- the position after the walk from radial r on, which starts at p
-abbrev pub walkFrom : Packet → ℕ → ℕ → List ℕ → ℕ → ℕ → Result ℕ
-walkFrom packet radials bins s r p = position (walk (anyWalk packet radials bins (radials - r) r) s p)
+abbrev pub walkFrom : Bool → Packet → ℕ → ℕ → List ℕ → ℕ → ℕ → Result ℕ
+walkFrom gapped packet radials bins s r p = position (walk (inMode gapped (anyWalk packet radials bins (radials - r) r)) s p)
 
 -- a frame's step
 abbrev pub xdrRadialThen : Float → ℕ → Step → Ended XdrRadial
@@ -175,32 +235,32 @@ sweepFrom f (accepted g) = accepted (record { value = record { figures = f; azim
 sweepFrom f (refused x) = refused x
 
 -- What a plan says of a reading R of the bytes s: its refusal; or its figures, and where its radials stand, all of which are accepted.
-pub record Planned (figures : Figures) (at next : ℕ) (s : List ℕ) (R : Result (Given Sweep)) : Type 0 where
+pub record Planned (gapped : Bool) (figures : Figures) (at next : ℕ) (s : List ℕ) (R : Result (Given Sweep)) : Type 0 where
   pub radials : Given (List Float)
   pub small : figures .«n_radials» ≤ 100000
   pub cells : figures .«n_radials» * figures .«n_bins» ≤ 4000000
-  pub radials-are : run (anyWalk (figures .packet) (figures .«n_radials») (figures .«n_bins») (figures .«n_radials») 0) s at ≡ accepted radials
+  pub radials-are : run (inMode gapped (anyWalk (figures .packet) (figures .«n_radials») (figures .«n_bins») (figures .«n_radials») 0)) s at ≡ accepted radials
   pub next-is : radials .next ≡ next
   pub whole : R ≡ sweepFrom figures (accepted radials)
 
-unfoldable pub Plans : PlanRead → List ℕ → Result (Given Sweep) → Type 0
-Plans (PlanRead.Value f at next) s R = Planned f at next s R
-Plans (PlanRead.Refused e) s R = refused (refusalOf e) ≡ R
+unfoldable pub Plans : Bool → PlanRead → List ℕ → Result (Given Sweep) → Type 0
+Plans gapped (PlanRead.Value f at next) s R = Planned gapped f at next s R
+Plans gapped (PlanRead.Refused e) s R = refused (refusalOf e) ≡ R
 
 -- The same of a body, whose radials stand in a part of it.
-pub record Plotted (figures : Figures) (from to at : ℕ) (body : List ℕ) (R : Result (Given Sweep)) : Type 0 where
+pub record Plotted (gapped : Bool) (figures : Figures) (from to at : ℕ) (body : List ℕ) (R : Result (Given Sweep)) : Type 0 where
   pub radials : Given (List Float)
   pub end : ℕ
   pub small : figures .«n_radials» ≤ 100000
   pub cells : figures .«n_radials» * figures .«n_bins» ≤ 4000000
   pub ordered : from ≤ to
   pub inside : to ≤ length body
-  pub radials-are : run (anyWalk (figures .packet) (figures .«n_radials») (figures .«n_bins») (figures .«n_radials») 0) (slice from to body) at ≡ accepted radials
+  pub radials-are : run (inMode gapped (anyWalk (figures .packet) (figures .«n_radials») (figures .«n_bins») (figures .«n_radials») 0)) (slice from to body) at ≡ accepted radials
   pub whole : R ≡ accepted (record { value = record { figures = figures; azimuths = radials .value }; next = end; rows = radials .rows })
 
-unfoldable pub Plots : BodyPlan → List ℕ → Result (Given Sweep) → Type 0
-Plots (BodyPlan.Value f from to at) body R = Plotted f from to at body R
-Plots (BodyPlan.Refused e) body R = refused (refusalOf e) ≡ R
+unfoldable pub Plots : Bool → BodyPlan → List ℕ → Result (Given Sweep) → Type 0
+Plots gapped (BodyPlan.Value f from to at) body R = Plotted gapped f from to at body R
+Plots gapped (BodyPlan.Refused e) body R = refused (refusalOf e) ≡ R
 
 abbrev pub inPart : ℕ → ℕ → PlanRead → BodyPlan
 inPart from to (PlanRead.Value f at next) = BodyPlan.Value f from to at

@@ -14,7 +14,7 @@ ghost use Prim.Native.Nat.{_≤_, _<_};
 ghost use Rattle.bytes.specs.Reading.{walk, run};
 ghost use Rattle.xdr.specs.Xdr.{further};
 ghost use Rattle.symbology.specs.Symbology.{xdrRadials, component, payload};
-ghost use Rattle.symbology.specs.Walk.{nextOf, position, listed, nextComponent, Plans};
+ghost use Rattle.symbology.specs.Walk.{inMode, nextOf, position, listed, nextComponent, Plans};
 
 // All radials, of which the first gives the number of bins.
 fn radials_from(
@@ -23,9 +23,11 @@ fn radials_from(
     n_radials: usize,
     gate_width_m: f32,
     first_gate_m: f32,
+    gaps: bool,
 ) -> PlanRead
     requires { ⌜ (0 < «n_radials») × («n_radials» ≤ 100000) ⌝ }
-    ensures { λ r. ⌜ Plans r (now (buf .entry)) (run (xdrRadials «n_radials» «gate_width_m» «first_gate_m») (now (buf .entry)) at) ⌝ }
+    ensures { λ r. ⌜ Plans gaps r (now (buf .entry))
+        (run (inMode gaps (xdrRadials «n_radials» «gate_width_m» «first_gate_m»)) (now (buf .entry)) at) ⌝ }
 {
     let first = crate::generic::xdr_frame(buf, Step::At(at), n_radials, 0, true, 0);
     let n_bins = first.bins;
@@ -44,12 +46,13 @@ fn radials_from(
                     first_gate_m,
                 },
             },
+            gaps,
         ),
     }
 }
 
-fn component(buf: &[u8], at: usize) -> PlanRead
-    ensures { λ r. ⌜ Plans r (now (buf .entry)) (run component (now (buf .entry)) at) ⌝ }
+fn component(buf: &[u8], at: usize, gaps: bool) -> PlanRead
+    ensures { λ r. ⌜ Plans gaps r (now (buf .entry)) (run (inMode gaps component) (now (buf .entry)) at) ⌝ }
 {
     match crate::generic::component_head(buf, at) {
         GatesRead::Refused(error) => PlanRead::Refused(error),
@@ -58,17 +61,17 @@ fn component(buf: &[u8], at: usize) -> PlanRead
             gate_width_m,
             first_gate_m,
             next,
-        } => radials_from(buf, next, n_radials, gate_width_m, first_gate_m),
+        } => radials_from(buf, next, n_radials, gate_width_m, first_gate_m, gaps),
     }
 }
 
 // A pointer and a component after it.
-fn next_component(buf: &[u8], at: usize) -> Next
-    ensures { λ r. ⌜ nextOf r ≡ position (walk nextComponent (now (buf .entry)) at) ⌝ }
+fn next_component(buf: &[u8], at: usize, gaps: bool) -> Next
+    ensures { λ r. ⌜ nextOf r ≡ position (walk (inMode gaps nextComponent) (now (buf .entry)) at) ⌝ }
 {
     match xdr::steps::skip_word(buf, Step::At(at), XdrItem::Int) {
         Step::Refused { error, at: _ } => Next::Refused(error),
-        Step::At(from) => match component(buf, from) {
+        Step::At(from) => match component(buf, from, gaps) {
             PlanRead::Refused(error) => Next::Refused(error),
             PlanRead::Value {
                 figures: _,
@@ -80,13 +83,13 @@ fn next_component(buf: &[u8], at: usize) -> Next
 }
 
 // Components after the first: each is walked, since its refusal comes before 28.
-fn further_components(buf: &[u8], start: usize, n: usize) -> Next
-    ensures { λ r. ⌜ nextOf r ≡ position (walk (further component n) (now (buf .entry)) start) ⌝ }
+fn further_components(buf: &[u8], start: usize, n: usize, gaps: bool) -> Next
+    ensures { λ r. ⌜ nextOf r ≡ position (walk (inMode gaps (further component n)) (now (buf .entry)) start) ⌝ }
 {
     let mut at = start;
     let mut left = n;
     while 0 < left {
-        let next = next_component(buf, at);
+        let next = next_component(buf, at, gaps);
         match next {
             Next::At(e) => {
                 at = e;
@@ -101,13 +104,13 @@ fn further_components(buf: &[u8], start: usize, n: usize) -> Next
 }
 
 // The components, of which there are n: 28, 35.
-fn components(buf: &[u8], at: usize, n: usize) -> PlanRead
-    ensures { λ r. ⌜ Plans r (now (buf .entry)) (run (listed n) (now (buf .entry)) at) ⌝ }
+fn components(buf: &[u8], at: usize, n: usize, gaps: bool) -> PlanRead
+    ensures { λ r. ⌜ Plans gaps r (now (buf .entry)) (run (inMode gaps (listed n)) (now (buf .entry)) at) ⌝ }
 {
     if n == 0 {
         return PlanRead::Refused(Level3DecodeError::UnexpectedXdrComponentCount(0));
     }
-    match component(buf, at) {
+    match component(buf, at, gaps) {
         PlanRead::Refused(error) => PlanRead::Refused(error),
         PlanRead::Value {
             figures,
@@ -127,7 +130,7 @@ fn components(buf: &[u8], at: usize, n: usize) -> PlanRead
                     next,
                 };
             }
-            match further_components(buf, next, n - 1) {
+            match further_components(buf, next, n - 1, gaps) {
                 Next::Refused(error) => PlanRead::Refused(error),
                 Next::At(_) => PlanRead::Refused(Level3DecodeError::UnexpectedXdrComponentCount(n)),
             }
@@ -135,15 +138,15 @@ fn components(buf: &[u8], at: usize, n: usize) -> PlanRead
     }
 }
 
-pub fn read_payload(buf: &[u8]) -> PlanRead
-    ensures { λ r. ⌜ Plans r (now (buf .entry)) (run payload (now (buf .entry)) 0) ⌝ }
+pub fn read_payload(buf: &[u8], gaps: bool) -> PlanRead
+    ensures { λ r. ⌜ Plans gaps r (now (buf .entry)) (run (inMode gaps payload) (now (buf .entry)) 0) ⌝ }
 {
     let then = crate::generic::product_block(buf, Step::At(0));
     match then {
         Step::Refused { error, at: _ } => PlanRead::Refused(error),
         Step::At(at) => match xdr::xdr::list_head(buf, at) {
             CountRead::Refused { error, at: _ } => PlanRead::Refused(error),
-            CountRead::Value { value, next } => components(buf, next, value),
+            CountRead::Value { value, next } => components(buf, next, value, gaps),
         },
     }
 }

@@ -12,13 +12,18 @@ ghost use Rattle.bytes.specs.Bytes.{u16At};
 ghost use Rattle.bytes.specs.Result.{accepted, then};
 ghost use Rattle.bytes.specs.Text.{all, leading};
 ghost use Rattle.symbology.specs.Rows.{reach, cells, rowAF1F, words, isLevel, levels, rowOf, codesOf, FullRow};
-ghost use Rattle.symbology.specs.Walk.{swap};
-ghost use Rattle.symbology.specs.Answers.{checkOf};
+ghost use Rattle.symbology.specs.Walk.{swap, keptOf, Ready, cellsFrom, markFrom};
+ghost use Rattle.bytes.specs.Reading.{marked};
+ghost use Rattle.symbology.specs.Places.{Enough};
+ghost use Rattle.symbology.specs.Answers.{checkOf, markOf, shown};
 
-// Whether the data make a row: always in packet 16; in AF1F 22, in packet 28 34.
-pub fn check_row(packet: Packet, n_bins: usize, radial: usize, data: &[u8]) -> Check
-    ensures { λ r. ⌜ checkOf r ≡ then (rowOf packet «n_bins» radial (now («data» .entry))) (λ _. accepted tt) ⌝ }
+// Whether the data make a row: always in packet 16; in AF1F 22, in packet 28 34. With gaps it is not asked.
+pub fn check_row(packet: Packet, n_bins: usize, radial: usize, data: &[u8], gaps: bool) -> Check
+    ensures { λ r. ⌜ checkOf r ≡ then (keptOf gaps (rowOf packet «n_bins» radial (now («data» .entry)))) (λ _. accepted tt) ⌝ }
 {
+    if gaps {
+        return Check::Passed;
+    }
     match packet {
         Packet::Packet16 => Check::Passed,
         Packet::PacketAf1f => check_runs(n_bins, radial, data),
@@ -42,6 +47,41 @@ pub fn write_row(packet: Packet, data: &[u8], row: &mut [u16])
             write_levels(data, row);
         }
     }
+}
+
+// The mark of a gap.
+const GAP: u8 = 1;
+
+// The codes of data that make a row, and the mark 0; else codes 0, and the mark of a gap.
+fn show_row(packet: Packet, radial: usize, data: &[u8], row: &mut [u16]) -> u8
+    requires { ⌜ Enough packet (length (now row)) (length (now «data»)) ⌝ }
+    ensures { λ r. ⌜ r ≡ markOf (marked (rowOf packet (length (now (row .entry))) radial (now («data» .entry)))) ⌝ }
+    ensures { λ _. ⌜ now (row .exit)
+        ≡ shown (length (now (row .entry))) (marked (rowOf packet (length (now (row .entry))) radial (now («data» .entry)))) ⌝ }
+{
+    match check_row(packet, row.len(), radial, data, false) {
+        Check::Passed => {
+            write_row(packet, data, row);
+            0
+        }
+        Check::Refused(_) => {
+            fill(row, 0);
+            GAP
+        }
+    }
+}
+
+// With gaps, the same. Without, the codes of data that make a row, and 0.
+pub fn write_cells(packet: Packet, radial: usize, data: &[u8], row: &mut [u16], gaps: bool) -> u8
+    requires { ⌜ Ready gaps packet (length (now row)) (now «data») ⌝ }
+    ensures { λ r. ⌜ r ≡ markFrom gaps packet (length (now (row .entry))) radial (now («data» .entry)) ⌝ }
+    ensures { λ _. ⌜ now (row .exit) ≡ cellsFrom gaps packet (length (now (row .entry))) radial (now («data» .entry)) ⌝ }
+{
+    if gaps {
+        return show_row(packet, radial, data, row);
+    }
+    write_row(packet, data, row);
+    0
 }
 
 // How many cells of a row are written at a time, in packets 16 and 28: few enough for the compiler to write the block out without a loop.

@@ -17,14 +17,15 @@ ghost use mathlib.Core.Path.{_≡_};
 ghost use mathlib.Core.Bool.{_&&_, not};
 ghost use mathlib.Core.List.{[]};
 ghost use Prim.Native.Nat.{_*_, _≤_};
-ghost use lib.Dec.{eqb};
+ghost use lib.Dec.{eqb, ltb};
 ghost use lib.ListN.{length};
 ghost use Rattle.bytes.specs.Refusal.{kind};
 ghost use Rattle.bytes.specs.Result.{accepted, refuse, then};
 ghost use Rattle.bytes.specs.Reading.{run};
 ghost use Rattle.symbology.specs.Symbology.{radialPacket, genericPacket, bodyShort, symbology};
-ghost use Rattle.symbology.specs.Answers.{asked, tooFew, stepOf, roomIn, admit, pictureOf, decodeFor, decodeOf, figuresIn, figuresOf, checkOf, Decodes};
-ghost use Rattle.symbology.specs.Walk.{inPart, Plots};
+ghost use Rattle.symbology.specs.Answers.{asked, tooFew, stepOf, roomIn, admit, pictureOf, decodeFor, decodeOf, gapDecodeFor, figuresIn};
+ghost use Rattle.symbology.specs.Answers.{figuresOf, checkOf, Decodes, DecodesWithGaps};
+ghost use Rattle.symbology.specs.Walk.{inMode, inPart, Plots, DecodesIn};
 
 const RADIAL_PACKET_CODE: u16 = 16;
 
@@ -52,9 +53,9 @@ fn in_part(plan: PlanRead, from: usize, to: usize) -> BodyPlan
 }
 
 // A packet 16 or AF1F from its header at byte 18 on.
-fn plan_radial_packet(body: &[u8], packet: Packet) -> BodyPlan
+fn plan_radial_packet(body: &[u8], packet: Packet, gaps: bool) -> BodyPlan
     requires { ⌜ (18 ≤ length (now body)) × (packet ≡ Packet.Packet28 → ⊥) ⌝ }
-    ensures { λ r. ⌜ Plots r (now (body .entry)) (run (radialPacket packet) (now (body .entry)) 18) ⌝ }
+    ensures { λ r. ⌜ Plots gaps r (now (body .entry)) (run (inMode gaps (radialPacket packet)) (now (body .entry)) 18) ⌝ }
 {
     match crate::radials::read_packet_header(body, packet) {
         HeaderRead::Refused(error) => BodyPlan::Refused(error),
@@ -65,7 +66,11 @@ fn plan_radial_packet(body: &[u8], packet: Packet) -> BodyPlan
                 n_bins: h.n_bins,
                 geometry: Geometry::RangeScale(h.range_scale),
             };
-            in_part(crate::walks::plan_radials(body, 30, figures), 0, body.len())
+            in_part(
+                crate::walks::plan_radials(body, 30, figures, gaps),
+                0,
+                body.len(),
+            )
         }
     }
 }
@@ -81,9 +86,9 @@ fn is_body_short(size: i32, room: usize) -> bool
 }
 
 // Packet 28 from byte 18 on: 12, 23, and its payload as a part of its own.
-fn plan_generic_packet(body: &[u8]) -> BodyPlan
+fn plan_generic_packet(body: &[u8], gaps: bool) -> BodyPlan
     requires { ⌜ 18 ≤ length (now body) ⌝ }
-    ensures { λ r. ⌜ Plots r (now (body .entry)) (run genericPacket (now (body .entry)) 18) ⌝ }
+    ensures { λ r. ⌜ Plots gaps r (now (body .entry)) (run (inMode gaps genericPacket) (now (body .entry)) 18) ⌝ }
 {
     let len = body.len();
     if len < 24 {
@@ -100,7 +105,7 @@ fn plan_generic_packet(body: &[u8]) -> BodyPlan
         });
     }
     let to = 24 + need;
-    in_part(crate::components::read_payload(&body[24..to]), 24, to)
+    in_part(crate::components::read_payload(&body[24..to], gaps), 24, to)
 }
 
 fn is_block_header(divider: u16, block: u16) -> bool
@@ -113,8 +118,8 @@ fn is_block_header(divider: u16, block: u16) -> bool
 }
 
 // The whole body, checked: 12, 13, 14 and those of the packet.
-fn plan(body: &[u8]) -> BodyPlan
-    ensures { λ r. ⌜ Plots r (now (body .entry)) (run symbology (now (body .entry)) 0) ⌝ }
+fn plan(body: &[u8], gaps: bool) -> BodyPlan
+    ensures { λ r. ⌜ Plots gaps r (now (body .entry)) (run (inMode gaps symbology) (now (body .entry)) 0) ⌝ }
 {
     let len = body.len();
     if len < 18 {
@@ -130,13 +135,13 @@ fn plan(body: &[u8]) -> BodyPlan
     }
     let code = bytes::bytes::u16_at(body, 16);
     if code == RADIAL_PACKET_CODE {
-        return plan_radial_packet(body, Packet::Packet16);
+        return plan_radial_packet(body, Packet::Packet16, gaps);
     }
     if code == AF1F_PACKET_CODE {
-        return plan_radial_packet(body, Packet::PacketAf1f);
+        return plan_radial_packet(body, Packet::PacketAf1f, gaps);
     }
     if code == GENERIC_PACKET_CODE {
-        return plan_generic_packet(body);
+        return plan_generic_packet(body, gaps);
     }
     BodyPlan::Refused(Level3DecodeError::UnsupportedPacketCode {
         code: bytes::bytes::as_i16(code),
@@ -147,7 +152,7 @@ fn plan(body: &[u8]) -> BodyPlan
 pub fn check(body: &[u8]) -> FiguresRead
     ensures { λ r. ⌜ figuresOf r ≡ figuresIn (pictureOf (now (body .entry))) ⌝ }
 {
-    match plan(body) {
+    match plan(body, false) {
         BodyPlan::Refused(refusal) => FiguresRead::Refused(refusal),
         BodyPlan::Value {
             figures,
@@ -258,13 +263,29 @@ fn test_terms(terms: Terms, azimuths: usize, codes: usize, figures: Figures) -> 
     both(packet, both(step, room))
 }
 
-// The picture of a body on terms: its figures; in the front of the buffers the centres in degrees and the codes by row. A refusal
-// writes nothing.
-pub fn decode_for(body: &[u8], terms: Terms, azimuths: &mut [f64], codes: &mut [u16]) -> FiguresRead
-    ensures { λ r. ⌜ Decodes (decodeFor terms (now (body .entry)))
-        (now (azimuths .entry)) (now (azimuths .exit)) (now (codes .entry)) (now (codes .exit)) r ⌝ }
+// No room for the marks, which are written with gaps alone.
+fn no_marks(gaps: bool, marks: usize, n_radials: usize) -> bool
+    ensures { λ r. ⌜ r ≡ (gaps && ltb marks «n_radials») ⌝ }
 {
-    match plan(body) {
+    if gaps {
+        return marks < n_radials;
+    }
+    false
+}
+
+// The picture of a body on terms, without gaps or with them.
+fn decode_in(
+    body: &[u8],
+    terms: Terms,
+    azimuths: &mut [f64],
+    codes: &mut [u16],
+    marks: &mut [u8],
+    gaps: bool,
+) -> FiguresRead
+    ensures { λ r. ⌜ DecodesIn gaps terms (now (body .entry)) (now (azimuths .entry)) (now (azimuths .exit))
+        (now (codes .entry)) (now (codes .exit)) (now (marks .entry)) (now (marks .exit)) r ⌝ }
+{
+    match plan(body, gaps) {
         BodyPlan::Refused(error) => FiguresRead::Refused(error),
         BodyPlan::Value {
             figures,
@@ -274,6 +295,11 @@ pub fn decode_for(body: &[u8], terms: Terms, azimuths: &mut [f64], codes: &mut [
         } => match test_terms(terms, azimuths.len(), codes.len(), figures) {
             Check::Refused(error) => FiguresRead::Refused(error),
             Check::Passed => {
+                if no_marks(gaps, marks.len(), figures.n_radials) {
+                    return FiguresRead::Refused(Level3DecodeError::BufferTooShort {
+                        buffer: Buffer::Marks,
+                    });
+                }
                 let packet = figures.packet;
                 crate::walks::write_radials(
                     packet,
@@ -283,11 +309,23 @@ pub fn decode_for(body: &[u8], terms: Terms, azimuths: &mut [f64], codes: &mut [
                     figures.n_bins,
                     azimuths,
                     codes,
+                    marks,
+                    gaps,
                 );
                 FiguresRead::Value(figures)
             }
         },
     }
+}
+
+// The picture of a body on terms: its figures; in the front of the buffers the centres in degrees and the codes by row. A refusal
+// writes nothing.
+pub fn decode_for(body: &[u8], terms: Terms, azimuths: &mut [f64], codes: &mut [u16]) -> FiguresRead
+    ensures { λ r. ⌜ Decodes (decodeFor terms (now (body .entry)))
+        (now (azimuths .entry)) (now (azimuths .exit)) (now (codes .entry)) (now (codes .exit)) r ⌝ }
+{
+    let mut none = [0u8; 1];
+    decode_in(body, terms, azimuths, codes, &mut none, false)
 }
 
 // The same of any packet.
@@ -300,4 +338,19 @@ pub fn decode_symbology(body: &[u8], azimuths: &mut [f64], codes: &mut [u16]) ->
         physical: Room::Unasked,
     };
     decode_for(body, terms, azimuths, codes)
+}
+
+// The picture of a body on terms, with gaps where a radial's data make no row, and a mark for each radial: 1 for a gap, else 0. A refusal
+// writes nothing.
+pub fn decode_with_gaps(
+    body: &[u8],
+    terms: Terms,
+    azimuths: &mut [f64],
+    codes: &mut [u16],
+    marks: &mut [u8],
+) -> FiguresRead
+    ensures { λ r. ⌜ DecodesWithGaps (gapDecodeFor terms (now (body .entry))) (now (azimuths .entry)) (now (azimuths .exit))
+        (now (codes .entry)) (now (codes .exit)) (now (marks .entry)) (now (marks .exit)) r ⌝ }
+{
+    decode_in(body, terms, azimuths, codes, marks, true)
 }

@@ -12,7 +12,7 @@ pub struct Refusal {
 }
 
 pub const ITEMS: [&str; 7] = ["int", "uint", "float", "string_body", "padding", "array_body", "packet_body"];
-pub const BUFFERS: [&str; 3] = ["azimuths", "codes", "physical"];
+pub const BUFFERS: [&str; 4] = ["azimuths", "codes", "physical", "marks"];
 
 /// The table's names, from 1.
 pub const NAMES: [&str; 36] = [
@@ -129,6 +129,8 @@ pub struct Each {
 pub enum Answer {
     Refused(Refusal),
     Sweep(Box<Sweep>),
+    /// A gap reading: a mark for each radial, 1 where the row is a gap.
+    Gaps(Box<Sweep>, Vec<u8>),
     Picture(Box<Picture>),
     Token([u8; 6]),
     Number(i128),
@@ -163,6 +165,8 @@ pub enum Answer {
     Nothing,
     /// The Rust overflowed: outside its domain only.
     Panic,
+    /// The Rust has no such reading.
+    Absent,
 }
 
 pub fn same_f32(a: f32, b: f32) -> bool {
@@ -308,12 +312,13 @@ impl Answer {
         }
     }
 
-    /// Equal answers. Two floats are equal if their bits are or both are NaN. A panic equals nothing.
+    /// Equal answers. Two floats are equal if their bits are or both are NaN. A panic equals nothing, nor does an absent answer.
     pub fn same(&self, other: &Answer) -> bool {
         use Answer::*;
         match (self, other) {
             (Refused(a), Refused(b)) => a.same(b),
             (Sweep(a), Sweep(b)) => a.same(b),
+            (Gaps(a, c), Gaps(b, d)) => a.same(b) && c == d,
             (Picture(a), Picture(b)) => a.same(b),
             (Token(a), Token(b)) => a == b,
             (Number(a), Number(b)) => a == b,
@@ -441,6 +446,10 @@ impl Display for Answer {
         match self {
             Answer::Refused(r) => write!(f, "{r}"),
             Answer::Sweep(s) => write!(f, "A {s}"),
+            Answer::Gaps(s, marks) => {
+                let cells = s.picture.radials * s.picture.bins;
+                write!(f, "A {s} marks={}", array(marks.iter().map(|m| [*m]), cells))
+            }
             Answer::Picture(p) => write!(f, "A {p}"),
             Answer::Token(t) => write!(f, "A {} {}", t[..3].escape_ascii(), t[3..].escape_ascii()),
             Answer::Number(n) => write!(f, "A {n}"),
@@ -482,6 +491,7 @@ impl Display for Answer {
             }
             Answer::Nothing => write!(f, "N"),
             Answer::Panic => write!(f, "PANIC"),
+            Answer::Absent => write!(f, "? not in the Rust"),
         }
     }
 }

@@ -35,6 +35,15 @@ pub enum Case {
         file: Vec<u8>,
         body: Vec<u8>,
     },
+    /// The gap reading: a sweep's input, and how many marks are lent.
+    Gaps {
+        clock: i128,
+        scheme: Scheme,
+        lent: Lent,
+        marks: usize,
+        file: Vec<u8>,
+        body: Vec<u8>,
+    },
     Sym {
         body: Vec<u8>,
     },
@@ -200,6 +209,7 @@ impl Case {
     pub fn kind(&self) -> &'static str {
         match self {
             Case::Sweep { .. } => "sweep",
+            Case::Gaps { .. } => "gaps",
             Case::Sym { .. } => "sym",
             Case::Token { .. } => "token",
             Case::Mhb { .. } => "mhb",
@@ -220,19 +230,39 @@ impl Case {
         }
     }
 
+    /// The gap reading of a sweep's input.
+    pub fn with_marks(self, marks: usize) -> Case {
+        match self {
+            Case::Sweep { clock, scheme, lent, file, body } => Case::Gaps { clock, scheme, lent, marks, file, body },
+            other => other,
+        }
+    }
+
+    /// The ordinary reading of a gap reading's input.
+    pub fn ordinary(self) -> Case {
+        match self {
+            Case::Gaps { clock, scheme, lent, file, body, .. } => Case::Sweep { clock, scheme, lent, file, body },
+            other => other,
+        }
+    }
+
     /// A case line: the kind, a name, and the inputs.
     pub fn parse(line: &str) -> Result<(String, Case), String> {
         let words: Vec<&str> = line.split_ascii_whitespace().collect();
         let word = |i: usize| words.get(i).copied().ok_or_else(|| format!("word {i} is missing"));
         let bytes = |i: usize| unhex(word(i)?);
-        let case = match word(0)? {
-            "sweep" => Case::Sweep {
+        let sweep = |at: usize| {
+            Ok::<_, String>(Case::Sweep {
                 clock: number(word(2)?)?,
                 scheme: Scheme::parse(word(3)?)?,
                 lent: Lent { azimuths: number(word(4)?)?, codes: number(word(5)?)?, physical: number(word(6)?)? },
-                file: bytes(7)?,
-                body: bytes(8)?,
-            },
+                file: bytes(at)?,
+                body: bytes(at + 1)?,
+            })
+        };
+        let case = match word(0)? {
+            "sweep" => sweep(7)?,
+            "gaps" => sweep(8)?.with_marks(number(word(7)?)?),
             "sym" => Case::Sym { body: bytes(2)? },
             "token" => Case::Token { file: bytes(2)? },
             "mhb" => Case::Mhb { file: bytes(2)? },
@@ -277,6 +307,10 @@ impl Case {
             Case::Sweep { clock, scheme, lent, file, body } => {
                 let Lent { azimuths, codes, physical } = lent;
                 format!("{clock} {} {azimuths} {codes} {physical} {} {}", scheme.text(), hex(file), hex(body))
+            }
+            Case::Gaps { clock, scheme, lent, marks, file, body } => {
+                let Lent { azimuths, codes, physical } = lent;
+                format!("{clock} {} {azimuths} {codes} {physical} {marks} {} {}", scheme.text(), hex(file), hex(body))
             }
             Case::Sym { body } => hex(body),
             Case::Token { file } | Case::Mhb { file } => hex(file),

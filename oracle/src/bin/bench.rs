@@ -38,6 +38,18 @@ fn main() {
         Job { entries, rounds, name, body, lent }.run(packet);
     }
     println!();
+    println!("| packet | reading, class | sweep, µs | with gaps, µs | gaps / sweep |");
+    println!("|---|---|---:|---:|---:|");
+    for (name, body, radials, bins) in [
+        ("16, 720 × 1840", &sixteen, 720, 1840),
+        ("AF1F, 360 × 460, runs to 15", &runs[0], 360, 460),
+        ("AF1F, 360 × 460, runs to 4", &runs[1], 360, 460),
+        ("28, 360 × 920", &levels, 360, 920),
+    ] {
+        let lent = Lent { azimuths: radials, codes: radials * bins, physical: radials * bins };
+        Job { entries, rounds, name, body, lent }.gaps();
+    }
+    println!();
     println!("medians of {rounds} interleaved runs");
 }
 
@@ -83,6 +95,15 @@ impl Job<'_> {
             || assert_eq!(port.sweep(), 0),
             || copy.all(),
         );
+    }
+
+    /// The reading with gaps beside the ordinary one; the Rust has none.
+    fn gaps(&self) {
+        let file = sample::bench_files().into_iter().find(|(_, scheme, _)| *scheme == Scheme::Class).unwrap().2;
+        let mut one = Timed::new(self.entries, &file, CLOCK, Scheme::Class, self.body, self.lent);
+        let mut other = Timed::new(self.entries, &file, CLOCK, Scheme::Class, self.body, self.lent);
+        let [sweep, gaps] = self.medians([Timer::new(|| assert_eq!(one.sweep(), 0)), Timer::new(|| assert_eq!(other.gaps(), 0))]);
+        println!("| {} | whole body | {sweep:.1} | {gaps:.1} | {:.2} |", self.name, gaps / sweep);
     }
 
     /// What is timed must give the same answer.

@@ -1,5 +1,5 @@
 //! The cases that every run has: short inputs exhaustively, every length of small files and bodies, every byte of them, rows of every
-//! length up to 200 cells, radials of every mix of lengths, the places outside the Rust's domain, the caps, and the two grid sizes.
+//! length up to 200 cells, radials of every mix of lengths, gaps in all of these, the places outside the Rust's domain, the caps, and the two grid sizes.
 use super::Compare;
 use crate::make::body::{self, Body};
 use crate::make::{cases, file, Rng};
@@ -54,6 +54,7 @@ impl Compare {
             self.every_byte(rng);
         }
         self.every_width(seed);
+        self.gaps_fixed(seed);
         self.mixed_radials(seed);
         self.every_centre(seed);
         self.caps(seed);
@@ -346,6 +347,94 @@ impl Compare {
         }
     }
 
+    /// Gap readings: rows of every length with and without gaps, radials of every mix of data, every length around each bound of the
+    /// buffers, bodies with and without a gap cut at every length and with every byte changed.
+    fn gaps_fixed(&mut self, seed: u64) {
+        for (_, case) in sample::gaps() {
+            self.both_readings(&case);
+        }
+        let rng = &mut Rng::new(seed, u64::MAX / 17);
+        for scheme in 0..5 {
+            let scheme = Scheme::of(scheme, 0.254).unwrap();
+            let file = value_at_0(plain_file(rng, scheme), scheme);
+            for packet in Packet::ALL {
+                for bins in 1..=200 {
+                    let mut body = body::of_size(rng, packet, 3, bins).bytes;
+                    for radial in (0..3).filter(|radial| bins >> radial & 1 == 1) {
+                        spoil(&mut body, radial);
+                    }
+                    let lent = Lent { azimuths: 4, codes: 3 * bins + 1, physical: 3 * bins + bins % 2 };
+                    self.both_readings(&Case::Gaps {
+                        clock: 1 << 40,
+                        scheme,
+                        lent,
+                        marks: 3 + bins % 3,
+                        file: file.clone(),
+                        body,
+                    });
+                }
+                for gaps in 0..4 {
+                    let mut body = body::of_size(rng, packet, 2, 3).bytes;
+                    (0..2).filter(|radial| gaps >> radial & 1 == 1).for_each(|radial| spoil(&mut body, radial));
+                    self.every_lent(scheme, &file, &body);
+                }
+            }
+        }
+        let file = plain_file(rng, Scheme::Class);
+        self.mixed_runs(rng, &file);
+        for packet in Packet::ALL {
+            for gap in 0..3 {
+                let (radials, bins) = (rng.between(2, 3), rng.between(1, 6));
+                let mut body = body::of_size(rng, packet, radials, bins).bytes;
+                if gap < 2 {
+                    spoil(&mut body, gap);
+                }
+                for len in 0..body.len() {
+                    self.both_readings(&whole(Scheme::Class, &file, body[..len].to_vec()).with_marks(3));
+                }
+                for at in 0..body.len() {
+                    let mut changed = body.clone();
+                    for value in [0, 1, 2, 3, 4, 5, 0x10, 0x27, 0x7f, 0x80, 0xfe, 0xff] {
+                        changed[at] = value;
+                        self.both_readings(&whole(Scheme::Class, &file, changed.clone()).with_marks(4));
+                    }
+                }
+            }
+        }
+    }
+
+    /// Two radials of three bins, every buffer one place short, just long enough and longer, or nothing.
+    fn every_lent(&mut self, scheme: Scheme, file: &[u8], body: &[u8]) {
+        for mix in 0..4usize.pow(4) {
+            let [azimuths, codes, physical, marks] =
+                [(2, 1), (6, 4), (6, 16), (2, 64)].map(|(need, unit)| [0, need - 1, need, need + 2][mix / unit % 4]);
+            let (lent, clock) = (Lent { azimuths, codes, physical }, 1 << 40);
+            self.both_readings(&Case::Gaps { clock, scheme, lent, marks, file: file.to_vec(), body: body.to_vec() });
+        }
+    }
+
+    /// Three AF1F radials of three bins, each of any of eight data: rows, too short, too long, none, and rows with more behind them.
+    fn mixed_runs(&mut self, rng: &mut Rng, file: &[u8]) {
+        let data: [&[u8]; 8] = [
+            &[0x31, 0],
+            &[0x11, 0x22],
+            &[],
+            &[0x21, 0x22],
+            &[0x2f, 0x00],
+            &[0x41, 0x31],
+            &[0, 0x0f, 0x1e, 0x2d],
+            &[0x35, 0xff],
+        ];
+        for mix in 0..8usize.pow(3) {
+            let mut bytes = body::header(rng, Packet::Af1f, 3, 3);
+            for data in [1, 8, 64].map(|unit| data[mix / unit % 8]) {
+                bytes.extend([data.len() as u16 / 2, 10, 10].map(u16::to_be_bytes).concat());
+                bytes.extend(data);
+            }
+            self.both_readings(&whole(Scheme::Class, file, bytes).with_marks(3));
+        }
+    }
+
     /// Five radials of packet 16 of every mix of three lengths, all good, and with each of them in turn refused: the check guesses that
     /// a radial is as long as the one before.
     fn mixed_radials(&mut self, seed: u64) {
@@ -452,6 +541,34 @@ fn plain_file(rng: &mut Rng, scheme: Scheme) -> Vec<u8> {
         _ => {}
     }
     made.bytes
+}
+
+/// A file under which code 0 has a value: level 0, or floor 0.
+fn value_at_0(mut file: Vec<u8>, scheme: Scheme) -> Vec<u8> {
+    let block = model::header_place(&file).unwrap() + 18;
+    match scheme {
+        Scheme::Precip(_) => file[block + 52..block + 58].copy_from_slice(&[0, 255, 0, 0, 0, 2]),
+        Scheme::Legacy(_) => file[block + 42..block + 44].copy_from_slice(&[0, 9]),
+        _ => {}
+    }
+    file
+}
+
+/// Data that make no row, after a first cell: one run of one cell or of two, or a last level over 16 bits. Packet 16 has no such data.
+fn spoil(body: &mut [u8], radial: usize) {
+    let layout = model::layout(body);
+    let data = &mut body[layout.data[radial].clone()];
+    match layout.packet {
+        Packet::P16 => data[0] ^= 1,
+        Packet::Af1f => {
+            data.fill(0);
+            data[0] = if layout.bins == 1 { 0x2f } else { 0x1f };
+        }
+        Packet::P28 => {
+            let last = data.len() - 4;
+            data[last..].copy_from_slice(&65_536u32.to_be_bytes());
+        }
+    }
 }
 
 /// A file and a small body, both good.

@@ -2,7 +2,8 @@
 use super::body::{self, Body};
 use super::file::{self, File};
 use super::Rng;
-use crate::model::CODES;
+use crate::damage;
+use crate::model::{self, CODES};
 use crate::port::READS;
 use lines::{Case, FieldKind, Lent, Packet, Scheme, EACH};
 
@@ -72,14 +73,18 @@ fn enough(rng: &mut Rng, body: &Body) -> Lent {
     Lent { azimuths: body.radials + rng.below(3), codes: body.cells() + rng.below(4), physical: body.cells() + rng.below(4) }
 }
 
-/// One or more of the buffers too short, or just long enough.
-fn scant(rng: &mut Rng, body: &Body) -> Lent {
-    let some = |rng: &mut Rng, need: usize| match rng.below(4) {
+/// Too few places, or just enough.
+fn some(rng: &mut Rng, need: usize) -> usize {
+    match rng.below(4) {
         0 => need - 1,
         1 => rng.below(need + 1),
         2 => 0,
         _ => need,
-    };
+    }
+}
+
+/// One or more of the buffers too short, or just long enough.
+fn scant(rng: &mut Rng, body: &Body) -> Lent {
     Lent { azimuths: some(rng, body.radials), codes: some(rng, body.cells()), physical: some(rng, body.cells()) }
 }
 
@@ -153,6 +158,31 @@ pub fn sweep(rng: &mut Rng) -> Case {
     }
     let lent = if rng.one_in(16) { scant(rng, &body) } else { lent };
     Case::Sweep { clock: time.clock, scheme, lent, file: file.bytes, body: body.bytes }
+}
+
+/// A gap reading: data bytes changed, and some of the time other things after them.
+pub fn gaps(rng: &mut Rng) -> Case {
+    let packet = rng.pick(&[Packet::P16, Packet::Af1f, Packet::Af1f, Packet::P28, Packet::P28]);
+    let what = rng.below(16);
+    let scheme = if what == 0 { scheme(rng) } else { fitting_scheme(rng, packet) };
+    let Time { days, seconds, clock } = time(rng);
+    let mut file = file::file(rng, scheme, days, seconds);
+    let mut body = body::good(rng, packet);
+    let lent = if what == 1 { scant(rng, &body) } else { enough(rng, &body) };
+    let marks = if what < 3 { some(rng, body.radials) } else { body.radials + rng.below(3) };
+    if !rng.one_in(5) {
+        body.bytes = damage::damaged(rng, &model::layout(&body.bytes), &body.bytes);
+    }
+    match what {
+        3 => spoil_file(rng, &mut file),
+        4..=9 => body::damage(rng, &mut body),
+        10 => {
+            body::damage(rng, &mut body);
+            body::damage_again(rng, &mut body);
+        }
+        _ => {}
+    }
+    Case::Gaps { clock, scheme, lent, marks, file: file.bytes, body: body.bytes }
 }
 
 pub fn symbology(rng: &mut Rng) -> Case {

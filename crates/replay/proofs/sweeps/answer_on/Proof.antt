@@ -29,11 +29,17 @@ slice-relend-prefix-ask-3 c = search needs
 slice-aggregate-ask-3 : tie.Need-slice-aggregate-ask-3
 slice-aggregate-ask-3 c = sym (length-take-le _ _ (omega arith))
 
+slice-relend-prefix-ask-4 : tie.Need-slice-relend-prefix-ask-4
+slice-relend-prefix-ask-4 c = search needs
+
 slice-aggregate-ask-4 : tie.Need-slice-aggregate-ask-4
-slice-aggregate-ask-4 c = search needs
+slice-aggregate-ask-4 c = sym (length-take-le _ _ (omega arith))
 
 slice-aggregate-ask-5 : tie.Need-slice-aggregate-ask-5
 slice-aggregate-ask-5 c = search needs
+
+slice-aggregate-ask-6 : tie.Need-slice-aggregate-ask-6
+slice-aggregate-ask-6 c = search needs
 
 ask-requires : tie.Need-ask-requires
 ask-requires c κs = search needs
@@ -65,6 +71,9 @@ same-length-2 c = search needs
 same-length-3 : tie.Need-same-length-3
 same-length-3 c = search needs
 
+same-length-4 : tie.Need-same-length-4
+same-length-4 c = search needs
+
 returns : tie.Need-returns
 returns c = search needs
 
@@ -80,8 +89,10 @@ answer-on-spec =
     slice-aggregate-ask-2
     slice-relend-prefix-ask-3
     slice-aggregate-ask-3
+    slice-relend-prefix-ask-4
     slice-aggregate-ask-4
     slice-aggregate-ask-5
+    slice-aggregate-ask-6
     ask-requires
     slice-aggregate-print
     slice-aggregate-print-2
@@ -92,4 +103,5 @@ answer-on-spec =
     same-length
     same-length-2
     same-length-3
+    same-length-4
     returns)

@@ -2,12 +2,12 @@ use Rattle.show.proofs.InPart.{full, refuses, fill-accepts, read}
 use Rattle.sweep.proofs.Reading as reading
 use Rattle.sweep.specs.Sweep.{headReadOf}
 use Rattle.symbology.specs.Answers.{figuresOf}
-use Rattle.scale.specs.Outcome.{filledOf}
+use Rattle.scale.specs.Outcome.{filledOf, declaredScaleOf}
 use denote.Ref.{now}
 use lib.ListN.{length-map}
 use lib.Seq.{length-take-le}
 use native.Mathlib.Omega.{arith}
-use mathlib.Core.Path.{sym, ap, _∙_}
+use mathlib.Core.Path.{refl, sym, ap, _∙_}
 use borrow.Author.Needs.{needs}
 use Rattle.show.proofs.answer.read.Statement.{statement}
 use Rattle.show.proofs.answer.read.Tie as tie
@@ -24,7 +24,7 @@ use Rattle.symbology.proofs.symbology.decode_for.Reads as decode-for-reads
 abbrev Here : Type 0
 Here = lts.After-struct-known (read-head-reads.Asked, read-head-reads.Learnt, declared-scale-reads.Asked, declared-scale-reads.Learnt, terms-for-reads.Asked, terms-for-reads.Learnt, decode-for-reads.Asked, decode-for-reads.Learnt, least-reads.Asked, least-reads.Learnt, fill-physical-reads.Asked, fill-physical-reads.Learnt) reads.Pre reads.Post
 
-here : (c : Here) → reading.Decoded (c .before .before .before .before .before .before .before .before .before .before .before .before .before .before .before .before .before .before .before .before .before .before .args .scheme) (now (c .before .before .before .before .before .before .before .before .before .before .before .before .before .before .before .before .before .before .before .before .before .before .args .file)) (c .before .before .before .before .before .before .before .before .before .before .before .before .before .before .before .before .before .before .before .before .before .before .args .clock) (now (c .before .before .before .before .before .before .before .before .before .before .before .before .before .before .before .before .before .before .before .before .before .before .args .body)) (now (c .before .before .before .before .before .before .before .before .before .before .before .before .before .before .before .before .before .before .before .before .before .before .args .azimuths)) (now (c .before .before .before .before .before .before .before .before .before .before .before .before .before .before .before .before .before .before .before .before .before .before .args .codes)) (full (now (c .before .before .before .before .before .before .before .before .before .before .before .before .before .before .before .before .before .before .before .before .before .before .args .codes))) (c .before .before .before .before .before .before .before .before .before .before .before .before .before .before .h .given .0 .0) (c .before .before .before .before .before .before .before .before .before .before .before .before .declared-scale .result) (c .before .before .before .before .before .before .before .before .before .before .before .terms-for .result) (c .before .before .f .given .0 .0)
+here : (c : Here) → reading.Decoded (c .before .before .before .before .before .before .before .before .before .before .before .before .before .before .before .before .before .before .before .before .before .before .args .scheme) (now (c .before .before .before .before .before .before .before .before .before .before .before .before .before .before .before .before .before .before .before .before .before .before .args .file)) (c .before .before .before .before .before .before .before .before .before .before .before .before .before .before .before .before .before .before .before .before .before .before .args .clock) (now (c .before .before .before .before .before .before .before .before .before .before .before .before .before .before .before .before .before .before .before .before .before .before .args .body)) (now (c .before .before .before .before .before .before .before .before .before .before .before .before .before .before .before .before .before .before .before .before .before .before .args .azimuths)) (now (c .before .before .before .before .before .before .before .before .before .before .before .before .before .before .before .before .before .before .before .before .before .before .args .codes)) (full (now (c .before .before .before .before .before .before .before .before .before .before .before .before .before .before .before .before .before .before .before .before .before .before .args .codes))) (c .before .before .before .before .before .before .before .before .before .before .before .before .before .before .h .given .0 .0) (declaredScaleOf (c .before .before .before .before .before .before .before .before .before .before .before .before .declared-scale .result)) (c .before .before .before .before .before .before .before .before .before .before .before .terms-for .result) (c .before .before .f .given .0 .0)
 here c =
     record {
       head-is = ap headReadOf (sym (c .before .before .before .before .before .before .before .before .before .before .before .before .before .before .h .given .1)) ∙ c .before .before .before .before .before .before .before .before .before .before .before .before .before .before .before .before .read-head .ensures;
@@ -67,16 +67,16 @@ same-length-2 : tie.Need-same-length-2
 same-length-2 c = search needs
 
 returns-2 : tie.Need-returns-2
-returns-2 c = refuses _ _ _ _ (now (c .before .before .before .before .before .before .before .before .before .before .before .before .before .before .before .before .before .before .before .before .before .args .azimuths)) (now (c .before .before .before .before .before .before .before .before .before .before .before .before .before .before .before .before .before .before .before .before .before .args .codes)) (now (c .before .before .before .before .before .before .before .before .before .before .before .before .before .before .before .before .before .before .before .before .before .args .values)) (reading.body-refused _ _ _ _ (now (c .before .before .before .before .before .before .before .before .before .before .before .before .before .before .before .before .before .before .before .before .before .args .azimuths)) (now (c .before .before .before .before .before .before .before .before .before .before .before .before .before .before .before .before .before .before .before .before .before .args .codes)) (full (now (c .before .before .before .before .before .before .before .before .before .before .before .before .before .before .before .before .before .before .before .before .before .args .codes))) (c .before .before .before .before .before .before .before .before .before .before .before .before .before .h .given .0 .0) (c .before .before .before .before .before .before .before .before .before .before .before .declared-scale .result) (c .before .before .before .before .before .before .before .before .before .before .terms-for .result) (ap headReadOf (sym (c .before .before .before .before .before .before .before .before .before .before .before .before .before .h .given .1)) ∙ c .before .before .before .before .before .before .before .before .before .before .before .before .before .before .before .read-head .ensures) (c .before .before .before .before .before .before .before .before .before .before .before .declared-scale .ensures) (rw length-map (c .before .before .before .before .before .before .before .before .before .before .terms-for .ensures)) (c .before .e2 .given .1) (c .before .before .before .before .before .before .before .decode-for .ensures))
+returns-2 c = refuses _ _ _ _ (now (c .before .before .before .before .before .before .before .before .before .before .before .before .before .before .before .before .before .before .before .before .before .args .azimuths)) (now (c .before .before .before .before .before .before .before .before .before .before .before .before .before .before .before .before .before .before .before .before .before .args .codes)) (now (c .before .before .before .before .before .before .before .before .before .before .before .before .before .before .before .before .before .before .before .before .before .args .values)) (reading.body-refused _ _ _ _ (now (c .before .before .before .before .before .before .before .before .before .before .before .before .before .before .before .before .before .before .before .before .before .args .azimuths)) (now (c .before .before .before .before .before .before .before .before .before .before .before .before .before .before .before .before .before .before .before .before .before .args .codes)) (full (now (c .before .before .before .before .before .before .before .before .before .before .before .before .before .before .before .before .before .before .before .before .before .args .codes))) (c .before .before .before .before .before .before .before .before .before .before .before .before .before .h .given .0 .0) (declaredScaleOf (c .before .before .before .before .before .before .before .before .before .before .before .declared-scale .result)) (c .before .before .before .before .before .before .before .before .before .before .terms-for .result) (ap headReadOf (sym (c .before .before .before .before .before .before .before .before .before .before .before .before .before .h .given .1)) ∙ c .before .before .before .before .before .before .before .before .before .before .before .before .before .before .before .read-head .ensures) (c .before .before .before .before .before .before .before .before .before .before .before .declared-scale .ensures) (rw length-map (c .before .before .before .before .before .before .before .before .before .before .terms-for .ensures)) (c .before .e2 .given .1) (c .before .before .before .before .before .before .before .decode-for .ensures))
 
 mul-cells : tie.Need-mul-cells
-mul-cells c = record { fits = omega (arith, reading.drawn-here (here c) .codes-room, c .before .before .before .before .before .before .before .before .before .before .before .before .before .before .before .before .before .before .before .before .before .before .good .1 .1 .1 .1 .1 .0) }
+mul-cells c = record { fits = omega (arith, reading.drawn-here (here c) .admitted .codes-room, c .before .before .before .before .before .before .before .before .before .before .before .before .before .before .before .before .before .before .before .before .before .before .good .1 .1 .1 .1 .1 .0) }
 
 least-requires : tie.Need-least-requires
 least-requires c κs = search needs
 
 slice-reshare-prefix-fill-physical : tie.Need-slice-reshare-prefix-fill-physical
-slice-reshare-prefix-fill-physical c = search (needs, reading.drawn-here (here (c .before)) .codes-room)
+slice-reshare-prefix-fill-physical c = search (needs, reading.drawn-here (here (c .before)) .admitted .codes-room)
 
 slice-aggregate-fill-physical : tie.Need-slice-aggregate-fill-physical
 slice-aggregate-fill-physical c = sym (length-take-le _ _ (slice-reshare-prefix-fill-physical (c .before)))
@@ -118,7 +118,7 @@ same-length-8 : tie.Need-same-length-8
 same-length-8 c = search needs
 
 returns-4 : tie.Need-returns-4
-returns-4 c = reading.scale-accepts (here (c .before .before .before .before .before .before .before .before .before .before .before .before)) (c .before .declared .given .1)
+returns-4 c = read (now (c .before .before .before .before .before .before .before .before .before .before .before .before .before .before .before .before .before .before .before .before .before .before .before .before .before .before .before .before .before .before .before .before .before .before .args .values)) (here (c .before .before .before .before .before .before .before .before .before .before .before .before)) (c .before .before .before .before .before .before .before .before .before .before .before .before .before .before .before .before .before .before .before .before .decode-for .ensures .codes) (c .before .before .before .before .before .before .before .before .before .before .before .least .ensures) (reading.answer-refused (c .before .before .before .before .before .before .before .before .before .before .before .before .before .before .before .before .before .before .before .before .before .before .before .before .before .before .h .given .0 .0) _ refl (c .before .declared .given .1)) (c .before .before .before .before .before .before .before .before .before .before .before .before .before .before .before .before .before .before .before .before .decode-for .ensures .azimuths) (c .before .before .before .before .before .before .before .before .fill-physical .ensures .1)
 
 same-length-9 : tie.Need-same-length-9
 same-length-9 c = search needs
@@ -130,7 +130,7 @@ same-length-11 : tie.Need-same-length-11
 same-length-11 c = search needs
 
 returns-5 : tie.Need-returns-5
-returns-5 c = read (now (c .before .before .before .before .before .before .before .before .before .before .before .before .before .before .before .before .before .before .before .before .before .before .before .before .before .before .before .before .before .before .before .before .before .before .args .values)) (here (c .before .before .before .before .before .before .before .before .before .before .before .before)) (c .before .before .before .before .before .before .before .before .before .before .before .before .before .before .before .before .before .before .before .before .decode-for .ensures .codes) (c .before .before .before .before .before .before .before .before .before .before .before .least .ensures) (c .before .declared2 .given .1) (c .before .before .before .before .before .before .before .before .before .before .before .before .before .before .before .before .before .before .before .before .decode-for .ensures .azimuths) (c .before .before .before .before .before .before .before .before .fill-physical .ensures .1)
+returns-5 c = read (now (c .before .before .before .before .before .before .before .before .before .before .before .before .before .before .before .before .before .before .before .before .before .before .before .before .before .before .before .before .before .before .before .before .before .before .args .values)) (here (c .before .before .before .before .before .before .before .before .before .before .before .before)) (c .before .before .before .before .before .before .before .before .before .before .before .before .before .before .before .before .before .before .before .before .decode-for .ensures .codes) (c .before .before .before .before .before .before .before .before .before .before .before .least .ensures) (reading.answer-value (c .before .before .before .before .before .before .before .before .before .before .before .before .before .before .before .before .before .before .before .before .before .before .before .before .before .before .h .given .0 .0) _ refl (c .before .declared2 .given .1)) (c .before .before .before .before .before .before .before .before .before .before .before .before .before .before .before .before .before .before .before .before .decode-for .ensures .azimuths) (c .before .before .before .before .before .before .before .before .fill-physical .ensures .1)
 
 pub read-spec : {M : Type 1} → statement M
 read-spec =

@@ -5,11 +5,11 @@ use Rattle.show.proofs.picture.print_radials.Statement.{statement}
 use Rattle.show.proofs.picture.print_radials.Tie as tie
 
 abbrev Inv-loop : tie.InvT-loop
-Inv-loop radials bins azimuths codes physical n shown at₀ radial₀ at radial =
+Inv-loop radials bins azimuths codes physical marks n shown at₀ radial₀ at radial =
     (at ≤ length codes) × (radial ≤ shown) × (shown ≤ length azimuths)
 
 abbrev μ-loop : tie.MeasureT-loop
-μ-loop radials bins azimuths codes physical n shown at₀ radial₀ at radial = shown - radial
+μ-loop radials bins azimuths codes physical marks n shown at₀ radial₀ at radial = shown - radial
 
 least-requires : tie.Need-least-requires Inv-loop μ-loop
 least-requires c κs = search needs
@@ -28,6 +28,9 @@ mul-print-radial c = search needs
 
 shared-slice-read-print-radial : tie.Need-shared-slice-read-print-radial Inv-loop μ-loop
 shared-slice-read-print-radial c = search needs
+
+is-gap-requires : tie.Need-is-gap-requires Inv-loop μ-loop
+is-gap-requires c κs = search needs
 
 print-radial-requires : tie.Need-print-radial-requires Inv-loop μ-loop
 print-radial-requires c κs = search needs
@@ -65,6 +68,7 @@ print-radials-spec =
     loop-holds
     mul-print-radial
     shared-slice-read-print-radial
+    is-gap-requires
     print-radial-requires
     sub-if1
     returns

@@ -1,31 +1,32 @@
-use Rattle.sweep.proofs.Reading.{head-refused, body-refused, Decoded, drawn-here, fill-accepts, scale-accepts, read}
+use Rattle.sweep.proofs.Reading.{head-refused, body-refused, Decoded, drawn-here, fill-accepts, read}
 use Rattle.sweep.specs.Sweep.{headReadOf}
 use Rattle.symbology.specs.Answers.{figuresOf}
 use Rattle.scale.specs.Outcome.{filledOf}
 use denote.Ref.{now}
 use lib.Seq.{length-take-le}
 use native.Mathlib.Omega.{arith}
-use mathlib.Core.Path.{sym, ap, _∙_}
+use mathlib.Core.Path.{refl, sym, ap, _∙_}
+use Rattle.scale.specs.Physical.{declaredScale}
+use Rattle.sweep.proofs.plan.read_head.Reads as read-head-reads
+use Rattle.sweep.proofs.plan.terms_for.Reads as terms-for-reads
+use Rattle.symbology.proofs.symbology.decode_for.Reads as decode-for-reads
+use Rattle.scale.proofs.physical.fill_physical.Reads as fill-physical-reads
+use Rattle.sweep.proofs.sweep.answer_of.Reads as answer-of-reads
 use borrow.Author.Needs.{needs}
 use Rattle.sweep.proofs.sweep.read_sweep.Statement.{statement}
 use Rattle.sweep.proofs.sweep.read_sweep.Tie as tie
 use Rattle.sweep.proofs.sweep.read_sweep.Reads as reads
 use Rattle.sweep.proofs.sweep.read_sweep.Lts as lts
-use Rattle.scale.proofs.physical.declared_scale.Reads as declared-scale-reads
-use Rattle.scale.proofs.physical.fill_physical.Reads as fill-physical-reads
-use Rattle.sweep.proofs.plan.read_head.Reads as read-head-reads
-use Rattle.sweep.proofs.plan.terms_for.Reads as terms-for-reads
-use Rattle.symbology.proofs.symbology.decode_for.Reads as decode-for-reads
 
 -- where the body is accepted
 abbrev Here : Type 0
-Here = lts.After-struct-known (read-head-reads.Asked, read-head-reads.Learnt, declared-scale-reads.Asked, declared-scale-reads.Learnt, terms-for-reads.Asked, terms-for-reads.Learnt, decode-for-reads.Asked, decode-for-reads.Learnt, fill-physical-reads.Asked, fill-physical-reads.Learnt) reads.Pre reads.Post
+Here = lts.After-struct-known (read-head-reads.Asked, read-head-reads.Learnt, terms-for-reads.Asked, terms-for-reads.Learnt, decode-for-reads.Asked, decode-for-reads.Learnt, fill-physical-reads.Asked, fill-physical-reads.Learnt, answer-of-reads.Asked, answer-of-reads.Learnt) reads.Pre reads.Post
 
-here : (c : Here) → Decoded (c .before .before .before .before .before .before .before .before .before .before .before .before .before .before .before .before .before .before .before .before .before .before .before .args .scheme) (now (c .before .before .before .before .before .before .before .before .before .before .before .before .before .before .before .before .before .before .before .before .before .before .before .args .file)) (c .before .before .before .before .before .before .before .before .before .before .before .before .before .before .before .before .before .before .before .before .before .before .before .args .clock) (now (c .before .before .before .before .before .before .before .before .before .before .before .before .before .before .before .before .before .before .before .before .before .before .before .args .body)) (now (c .before .before .before .before .before .before .before .before .before .before .before .before .before .before .before .before .before .before .before .before .before .before .before .args .azimuths)) (now (c .before .before .before .before .before .before .before .before .before .before .before .before .before .before .before .before .before .before .before .before .before .before .before .args .codes)) (now (c .before .before .before .before .before .before .before .before .before .before .before .before .before .before .before .before .before .before .before .before .before .before .before .args .physical)) (c .before .before .before .before .before .before .before .before .before .before .before .before .before .before .before .h .given .0 .0) (c .before .before .before .before .before .before .before .before .before .before .before .before .declared-scale .result) (c .before .before .before .before .before .before .before .before .before .before .before .terms-for .result) (c .before .before .f .given .0 .0)
+here : (c : Here) → Decoded (c .before .before .before .before .before .before .before .before .before .before .before .before .before .before .before .before .before .before .before .before .before .args .scheme) (now (c .before .before .before .before .before .before .before .before .before .before .before .before .before .before .before .before .before .before .before .before .before .args .file)) (c .before .before .before .before .before .before .before .before .before .before .before .before .before .before .before .before .before .before .before .before .before .args .clock) (now (c .before .before .before .before .before .before .before .before .before .before .before .before .before .before .before .before .before .before .before .before .before .args .body)) (now (c .before .before .before .before .before .before .before .before .before .before .before .before .before .before .before .before .before .before .before .before .before .args .azimuths)) (now (c .before .before .before .before .before .before .before .before .before .before .before .before .before .before .before .before .before .before .before .before .before .args .codes)) (now (c .before .before .before .before .before .before .before .before .before .before .before .before .before .before .before .before .before .before .before .before .before .args .physical)) (c .before .before .before .before .before .before .before .before .before .before .before .before .before .h .given .0 .0) (declaredScale (c .before .before .before .before .before .before .before .before .before .before .before .before .before .h .given .0 .0 .scaling)) (c .before .before .before .before .before .before .before .before .before .before .before .terms-for .result) (c .before .before .f .given .0 .0)
 here c =
     record {
-      head-is = ap headReadOf (sym (c .before .before .before .before .before .before .before .before .before .before .before .before .before .before .before .h .given .1)) ∙ c .before .before .before .before .before .before .before .before .before .before .before .before .before .before .before .before .before .read-head .ensures;
-      declared-is = c .before .before .before .before .before .before .before .before .before .before .before .before .declared-scale .ensures;
+      head-is = ap headReadOf (sym (c .before .before .before .before .before .before .before .before .before .before .before .before .before .h .given .1)) ∙ c .before .before .before .before .before .before .before .before .before .before .before .before .before .before .before .read-head .ensures;
+      declared-is = refl;
       terms-are = c .before .before .before .before .before .before .before .before .before .before .before .terms-for .ensures;
       figures-are = ap figuresOf (sym (c .before .before .f .given .1)) ∙ c .before .before .before .before .before .before .before .before .decode-for .ensures .answered;
     }
@@ -41,9 +42,6 @@ enum-known-e c = search needs
 
 returns : tie.Need-returns
 returns c = head-refused _ _ _ _ _ _ _ (ap headReadOf (sym (c .before .e .given .1)) ∙ c .before .before .before .read-head .ensures)
-
-declared-scale-requires : tie.Need-declared-scale-requires
-declared-scale-requires c κs = search needs
 
 terms-for-requires : tie.Need-terms-for-requires
 terms-for-requires c κs = search needs
@@ -64,13 +62,13 @@ same-length-2 : tie.Need-same-length-2
 same-length-2 c = search needs
 
 returns-2 : tie.Need-returns-2
-returns-2 c = body-refused _ _ _ _ (now (c .before .before .before .before .before .before .before .before .before .before .before .before .before .before .before .before .before .before .before .before .before .before .args .azimuths)) (now (c .before .before .before .before .before .before .before .before .before .before .before .before .before .before .before .before .before .before .before .before .before .before .args .codes)) (now (c .before .before .before .before .before .before .before .before .before .before .before .before .before .before .before .before .before .before .before .before .before .before .args .physical)) (c .before .before .before .before .before .before .before .before .before .before .before .before .before .before .h .given .0 .0) (c .before .before .before .before .before .before .before .before .before .before .before .declared-scale .result) (c .before .before .before .before .before .before .before .before .before .before .terms-for .result) (ap headReadOf (sym (c .before .before .before .before .before .before .before .before .before .before .before .before .before .before .h .given .1)) ∙ c .before .before .before .before .before .before .before .before .before .before .before .before .before .before .before .before .read-head .ensures) (c .before .before .before .before .before .before .before .before .before .before .before .declared-scale .ensures) (c .before .before .before .before .before .before .before .before .before .before .terms-for .ensures) (c .before .e2 .given .1) (c .before .before .before .before .before .before .before .decode-for .ensures)
+returns-2 c = body-refused _ _ _ _ (now (c .before .before .before .before .before .before .before .before .before .before .before .before .before .before .before .before .before .before .before .before .args .azimuths)) (now (c .before .before .before .before .before .before .before .before .before .before .before .before .before .before .before .before .before .before .before .before .args .codes)) (now (c .before .before .before .before .before .before .before .before .before .before .before .before .before .before .before .before .before .before .before .before .args .physical)) (c .before .before .before .before .before .before .before .before .before .before .before .before .h .given .0 .0) (declaredScale (c .before .before .before .before .before .before .before .before .before .before .before .before .h .given .0 .0 .scaling)) (c .before .before .before .before .before .before .before .before .before .before .terms-for .result) (ap headReadOf (sym (c .before .before .before .before .before .before .before .before .before .before .before .before .h .given .1)) ∙ c .before .before .before .before .before .before .before .before .before .before .before .before .before .before .read-head .ensures) refl (c .before .before .before .before .before .before .before .before .before .before .terms-for .ensures) (c .before .e2 .given .1) (c .before .before .before .before .before .before .before .decode-for .ensures)
 
 mul-cells : tie.Need-mul-cells
-mul-cells c = record { fits = omega (arith, drawn-here (here c) .codes-room, c .before .before .before .before .before .before .before .before .before .before .before .before .before .before .before .before .before .before .before .before .before .before .before .good .1 .1 .1 .1 .1 .0) }
+mul-cells c = record { fits = omega (arith, drawn-here (here (c)) .admitted .codes-room, c .before .before .before .before .before .before .before .before .before .before .before .before .before .before .before .before .before .before .before .before .before .good .1 .1 .1 .1 .1 .0) }
 
 slice-reshare-prefix-fill-physical : tie.Need-slice-reshare-prefix-fill-physical
-slice-reshare-prefix-fill-physical c = search (needs, drawn-here (here c) .codes-room)
+slice-reshare-prefix-fill-physical c = search (needs, drawn-here (here (c)) .admitted .codes-room)
 
 slice-aggregate-fill-physical : tie.Need-slice-aggregate-fill-physical
 slice-aggregate-fill-physical c = sym (length-take-le _ _ (slice-reshare-prefix-fill-physical (c .before)))
@@ -96,11 +94,8 @@ returns-3 c = fill-accepts (here (c .before .before .before .before .before .bef
 enum-told : tie.Need-enum-told
 enum-told c = search needs
 
-enum-known-read : tie.Need-enum-known-read
-enum-known-read c = search needs
-
-enum-known-read-2 : tie.Need-enum-known-read-2
-enum-known-read-2 c = search needs
+answer-of-requires : tie.Need-answer-of-requires
+answer-of-requires c κs = search needs
 
 same-length-6 : tie.Need-same-length-6
 same-length-6 c = search needs
@@ -112,19 +107,7 @@ same-length-8 : tie.Need-same-length-8
 same-length-8 c = search needs
 
 returns-4 : tie.Need-returns-4
-returns-4 c = scale-accepts (here (c .before .before .before .before .before .before .before .before .before .before)) (c .before .read .given .1)
-
-same-length-9 : tie.Need-same-length-9
-same-length-9 c = search needs
-
-same-length-10 : tie.Need-same-length-10
-same-length-10 c = search needs
-
-same-length-11 : tie.Need-same-length-11
-same-length-11 c = search needs
-
-returns-5 : tie.Need-returns-5
-returns-5 c = read (here (c .before .before .before .before .before .before .before .before .before .before)) (c .before .before .before .before .before .before .before .before .before .before .before .before .before .before .before .before .before .before .decode-for .ensures .codes) (c .before .read2 .given .1) (c .before .before .before .before .before .before .before .before .before .before .before .before .before .before .before .before .before .before .decode-for .ensures .azimuths) (c .before .before .before .before .before .before .before .fill-physical .ensures .1)
+returns-4 c = read (here (c .before .before .before .before .before .before .before .before)) (c .before .before .before .before .before .before .before .before .before .before .before .before .before .before .before .before .decode-for .ensures .codes) (c .answer-of .ensures) (c .before .before .before .before .before .before .before .before .before .before .before .before .before .before .before .before .decode-for .ensures .azimuths) (c .before .before .before .before .before .fill-physical .ensures .1)
 
 pub read-sweep-spec : {M : Type 1} → statement M
 read-sweep-spec =
@@ -134,7 +117,6 @@ read-sweep-spec =
     enum-known-h
     enum-known-e
     returns
-    declared-scale-requires
     terms-for-requires
     decode-for-requires
     enum-known-f
@@ -152,13 +134,8 @@ read-sweep-spec =
     same-length-5
     returns-3
     enum-told
-    enum-known-read
-    enum-known-read-2
+    answer-of-requires
     same-length-6
     same-length-7
     same-length-8
-    returns-4
-    same-length-9
-    same-length-10
-    same-length-11
-    returns-5)
+    returns-4)

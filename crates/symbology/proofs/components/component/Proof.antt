@@ -19,10 +19,10 @@ radials-from-requires c κs = component-small _ _ (ap gatesOf (sym (c .before .n
 
 returns : tie.Need-returns
 unfolding Plans
-returns c = component-refused _ _ (ap gatesOf (sym (c .before .error .given .1)) ∙ c .before .before .before .component-head .ensures)
+returns c = component-refused _ _ _ (ap gatesOf (sym (c .before .error .given .1)) ∙ c .before .before .before .component-head .ensures)
 
 returns-2 : tie.Need-returns-2
-returns-2 c = plans-as _ _ (component-at _ _ (ap gatesOf (sym (c .before .before .n-radials .given .1)) ∙ c .before .before .before .before .component-head .ensures)) (c .radials-from .ensures)
+returns-2 c = plans-as _ _ _ (component-at _ _ _ (ap gatesOf (sym (c .before .before .n-radials .given .1)) ∙ c .before .before .before .before .component-head .ensures)) (c .radials-from .ensures)
 
 pub component-spec : {M : Type 1} → statement M
 component-spec =

@@ -28,15 +28,15 @@ enum-known-next c = search needs
 
 returns : tie.Need-returns
 unfolding pointer
-returns c = pointer-halted component _ _ (ap stepOf (sym (c .before .error .given .1)) ∙ c .before .before .before .skip-word .ensures ∙ sym (after-passed _ _ _) ∙ done-unit _)
+returns c = pointer-halted _ component _ _ (ap stepOf (sym (c .before .error .given .1)) ∙ c .before .before .before .skip-word .ensures ∙ sym (after-passed _ _ _) ∙ done-unit _)
 
 returns-2 : tie.Need-returns-2
 unfolding pointer
-returns-2 c = plan-stops _ _ (c .before .before .before .component .ensures) (c .before .error2 .given .1) ∙ sym (pointer-passed component _ _ (ap stepOf (sym (c .before .before .before .before .before .from .given .1)) ∙ c .before .before .before .before .before .before .before .skip-word .ensures ∙ sym (after-passed _ _ _) ∙ done-unit _))
+returns-2 c = plan-stops _ _ _ (c .before .before .before .component .ensures) (c .before .error2 .given .1) ∙ sym (pointer-passed _ component _ _ (ap stepOf (sym (c .before .before .before .before .before .from .given .1)) ∙ c .before .before .before .before .before .before .before .skip-word .ensures ∙ sym (after-passed _ _ _) ∙ done-unit _))
 
 returns-3 : tie.Need-returns-3
 unfolding pointer
-returns-3 c = plan-ends _ _ (c .before .before .before .component .ensures) (c .before .next .given .1) ∙ sym (pointer-passed component _ _ (ap stepOf (sym (c .before .before .before .before .before .from .given .1)) ∙ c .before .before .before .before .before .before .before .skip-word .ensures ∙ sym (after-passed _ _ _) ∙ done-unit _))
+returns-3 c = plan-ends _ _ _ (c .before .before .before .component .ensures) (c .before .next .given .1) ∙ sym (pointer-passed _ component _ _ (ap stepOf (sym (c .before .before .before .before .before .from .given .1)) ∙ c .before .before .before .before .before .before .before .skip-word .ensures ∙ sym (after-passed _ _ _) ∙ done-unit _))
 
 pub next-component-spec : {M : Type 1} → statement M
 next-component-spec =

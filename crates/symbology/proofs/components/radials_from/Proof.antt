@@ -24,10 +24,10 @@ plan-radials-requires c κs = let f = framed _ 0 _ _ _ _ _ (ap (xdrRadialThen (c
 
 returns : tie.Need-returns
 unfolding Plans
-returns c = radials-refused _ _ _ _ _ (ap (xdrRadialThen (c .before .before .before .xdr-frame .result .centre) (c .before .before .before .xdr-frame .result .bins)) (sym (c .before .then .given .1)) ∙ c .before .before .before .xdr-frame .ensures ∙ sym (from-passed _ _ _))
+returns c = radials-refused _ _ _ _ _ _ (ap (xdrRadialThen (c .before .before .before .xdr-frame .result .centre) (c .before .before .before .xdr-frame .result .bins)) (sym (c .before .then .given .1)) ∙ c .before .before .before .xdr-frame .ensures ∙ sym (from-passed _ _ _))
 
 returns-2 : tie.Need-returns-2
-returns-2 c = plans-as _ _ (radials-are _ _ _ _ _ (c .before .before .before .before .before .pre .0) (ap (xdrRadialThen (c .before .before .before .xdr-frame .result .centre) (c .before .before .before .xdr-frame .result .bins)) (sym (c .before .enum-told .given .1)) ∙ c .before .before .before .xdr-frame .ensures ∙ sym (from-passed _ _ _))) (c .plan-radials .ensures)
+returns-2 c = plans-as _ _ _ (radials-are _ _ _ _ _ _ (c .before .before .before .before .before .pre .0) (ap (xdrRadialThen (c .before .before .before .xdr-frame .result .centre) (c .before .before .before .xdr-frame .result .bins)) (sym (c .before .enum-told .given .1)) ∙ c .before .before .before .xdr-frame .ensures ∙ sym (from-passed _ _ _))) (c .plan-radials .ensures)
 
 pub radials-from-spec : {M : Type 1} → statement M
 radials-from-spec =

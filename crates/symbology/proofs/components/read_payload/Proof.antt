@@ -30,14 +30,14 @@ components-requires c κs = search needs
 
 returns : tie.Need-returns
 unfolding Plans
-returns c = block-halted _ _ (ap stepOf (sym (c .before .then .given .1)) ∙ c .before .before .before .product-block .ensures ∙ sym (after-passed _ _ _) ∙ done-unit _)
+returns c = block-halted _ _ _ (ap stepOf (sym (c .before .then .given .1)) ∙ c .before .before .before .product-block .ensures ∙ sym (after-passed _ _ _) ∙ done-unit _)
 
 returns-2 : tie.Need-returns-2
 unfolding Plans
-returns-2 c = count-halted _ _ (ap stepOf (sym (c .before .before .before .before .before .then2 .given .1)) ∙ c .before .before .before .before .before .before .before .product-block .ensures ∙ sym (after-passed _ _ _) ∙ done-unit _) (ap countOf (sym (c .before .error .given .1)) ∙ c .before .before .before .list-head .ensures)
+returns-2 c = count-halted _ _ _ (ap stepOf (sym (c .before .before .before .before .before .then2 .given .1)) ∙ c .before .before .before .before .before .before .before .product-block .ensures ∙ sym (after-passed _ _ _) ∙ done-unit _) (ap countOf (sym (c .before .error .given .1)) ∙ c .before .before .before .list-head .ensures)
 
 returns-3 : tie.Need-returns-3
-returns-3 c = plans-as _ _ (count-passed _ _ (ap stepOf (sym (c .before .before .before .before .before .before .then2 .given .1)) ∙ c .before .before .before .before .before .before .before .before .product-block .ensures ∙ sym (after-passed _ _ _) ∙ done-unit _) (ap countOf (sym (c .before .before .value .given .1)) ∙ c .before .before .before .before .list-head .ensures)) (c .components .ensures)
+returns-3 c = plans-as _ _ _ (count-passed _ _ _ (ap stepOf (sym (c .before .before .before .before .before .before .then2 .given .1)) ∙ c .before .before .before .before .before .before .before .before .product-block .ensures ∙ sym (after-passed _ _ _) ∙ done-unit _) (ap countOf (sym (c .before .before .value .given .1)) ∙ c .before .before .before .before .list-head .ensures)) (c .components .ensures)
 
 pub read-payload-spec : {M : Type 1} → statement M
 read-payload-spec =

@@ -15,10 +15,10 @@ enum-known-figures : tie.Need-enum-known-figures
 enum-known-figures c = search needs
 
 returns : tie.Need-returns
-returns c = ap figuresIn (picture-refused _ (plan-refused _ _ (c .before .before .before .plan .ensures) (c .before .refusal .given .1)))
+returns c = ap figuresIn (picture-refused _ (plan-refused _ _ _ (c .before .before .before .plan .ensures) (c .before .refusal .given .1)))
 
 returns-2 : tie.Need-returns-2
-returns-2 c = ap figuresIn (picture-is _ (plan-value _ _ (c .before .before .before .plan .ensures) (c .before .figures .given .1)))
+returns-2 c = ap figuresIn (picture-is _ (plan-value _ _ _ (c .before .before .before .plan .ensures) (c .before .figures .given .1)))
 
 pub check-spec : {M : Type 1} → statement M
 check-spec =

@@ -9,7 +9,7 @@ use Rattle.symbology.proofs.symbology.plan_generic_packet.Tie as tie
 
 returns : tie.Need-returns
 unfolding Plots
-returns c = generic-cut _ (c .before .before .pre) (c .if1 .taken)
+returns c = generic-cut _ _ (c .before .before .pre) (c .if1 .taken)
 
 i32-at-requires : tie.Need-i32-at-requires
 i32-at-requires c κs = search needs
@@ -22,7 +22,7 @@ is-body-short-requires c κs = search needs
 
 returns-2 : tie.Need-returns-2
 unfolding Plots
-returns-2 c = generic-short _ (c .before .before .before .before .if1 .left) (toZ-ofZ {w = w32} {z = c .before .before .before .i32-at .result} (search needs) ∙ c .before .before .before .i32-at .ensures) (c .before .before .at-least-0 .ensures .0) (c .before .is-body-short .ensures) (c .if2 .taken)
+returns-2 c = generic-short _ (c .before .before .before .before .if1 .left) (toZ-ofZ {w = w32} {z = c .before .before .before .i32-at .result} (search needs) ∙ c .before .before .before .i32-at .ensures) (c .before .before .at-least-0 .ensures .0) (c .before .is-body-short .ensures) _ (c .if2 .taken)
 
 add-to : tie.Need-add-to
 add-to c = search needs
@@ -44,7 +44,7 @@ in-part-requires c κs = search needs
 
 returns-3 : tie.Need-returns-3
 returns-3 c = rw (c .in-part .ensures)
-    (generic-plots _ (c .before .before .before .before .before .before .before .if1 .left) (toZ-ofZ {w = w32} {z = c .before .before .before .before .before .before .i32-at .result} (search needs) ∙ c .before .before .before .before .before .before .i32-at .ensures) (c .before .before .before .before .before .at-least-0 .ensures .0) (c .before .before .before .before .is-body-short .ensures) (c .before .before .before .if2 .left) (c .before .before .before .before .before .before .before .before .shared-slice-known .given) _ (c .before .read-payload .ensures))
+    (generic-plots _ (c .before .before .before .before .before .before .before .if1 .left) (toZ-ofZ {w = w32} {z = c .before .before .before .before .before .before .i32-at .result} (search needs) ∙ c .before .before .before .before .before .before .i32-at .ensures) (c .before .before .before .before .before .at-least-0 .ensures .0) (c .before .before .before .before .is-body-short .ensures) (c .before .before .before .if2 .left) (c .before .before .before .before .before .before .before .before .shared-slice-known .given) _ _ (c .before .read-payload .ensures))
 
 pub plan-generic-packet-spec : {M : Type 1} → statement M
 plan-generic-packet-spec =

@@ -22,10 +22,10 @@ in-part-requires c κs = search needs
 
 returns : tie.Need-returns
 unfolding Plots
-returns c = radial-header-refused _ _ (c .before .before .before .before .before .pre .1) (ap headerOf (sym (c .before .error .given .1)) ∙ c .before .before .before .read-packet-header .ensures)
+returns c = radial-header-refused _ _ (c .before .before .before .before .before .pre .1) _ (ap headerOf (sym (c .before .error .given .1)) ∙ c .before .before .before .read-packet-header .ensures)
 
 returns-2 : tie.Need-returns-2
-returns-2 c = rw (c .in-part .ensures) (radial-plots _ _ (c .before .before .before .before .before .before .before .pre .1) (ap headerOf (sym (c .before .before .before .h .given .1)) ∙ c .before .before .before .before .before .read-packet-header .ensures) _ (c .before .plan-radials .ensures))
+returns-2 c = rw (c .in-part .ensures) (radial-plots _ _ (c .before .before .before .before .before .before .before .pre .1) (ap headerOf (sym (c .before .before .before .h .given .1)) ∙ c .before .before .before .before .before .read-packet-header .ensures) _ _ (c .before .plan-radials .ensures))
 
 pub plan-radial-packet-spec : {M : Type 1} → statement M
 plan-radial-packet-spec =

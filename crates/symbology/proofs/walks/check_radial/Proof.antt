@@ -35,15 +35,15 @@ enum-known-error-2 : tie.Need-enum-known-error-2
 enum-known-error-2 c = search needs
 
 returns : tie.Need-returns
-returns c = radial-refused _ _ _ _ _ _ (ap placeOf (sym (c .before .error .given .1)) ∙ c .before .before .before .frame-span .ensures)
+returns c = radial-refused _ _ _ _ _ _ _ (ap placeOf (sym (c .before .error .given .1)) ∙ c .before .before .before .frame-span .ensures)
 
 returns-2 : tie.Need-returns-2
 returns-2 c = let f = found _ _ _ _ _ _ (ap placeOf (sym (c .before .before .before .before .before .from .given .1)) ∙ c .before .before .before .before .before .before .before .frame-span .ensures) in
-    radial-row _ _ _ _ _ _ f (ap checkOf (sym (c .enum-told .given .1)) ∙ c .before .before .check-row .ensures)
+    radial-row _ _ _ _ _ _ f _ (ap checkOf (sym (c .enum-told .given .1)) ∙ c .before .before .check-row .ensures)
 
 returns-3 : tie.Need-returns-3
 returns-3 c = let f = found _ _ _ _ _ _ (ap placeOf (sym (c .before .before .before .before .before .before .from .given .1)) ∙ c .before .before .before .before .before .before .before .before .frame-span .ensures) in
-    radial-row _ _ _ _ _ _ f (ap checkOf (sym (c .before .error2 .given .1)) ∙ c .before .before .before .check-row .ensures)
+    radial-row _ _ _ _ _ _ f _ (ap checkOf (sym (c .before .error2 .given .1)) ∙ c .before .before .before .check-row .ensures)
 
 pub check-radial-spec : {M : Type 1} → statement M
 check-radial-spec =

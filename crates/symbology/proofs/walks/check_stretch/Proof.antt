@@ -9,13 +9,13 @@ use Rattle.symbology.proofs.walks.check_stretch.Statement.{statement}
 use Rattle.symbology.proofs.walks.check_stretch.Tie as tie
 
 abbrev Inv-loop : tie.InvT-loop
-Inv-loop packet s start size n-radials n-bins first at₀ r₀ at r = (first ≤ r) × Checked packet n-radials n-bins s (walkFrom packet n-radials n-bins s first start) r at
+Inv-loop packet s start size n-radials n-bins first gaps at₀ r₀ at r = (first ≤ r) × Checked gaps packet n-radials n-bins s (walkFrom gaps packet n-radials n-bins s first start) r at
 
 abbrev μ-loop : tie.MeasureT-loop
-μ-loop packet s start size n-radials n-bins first at₀ r₀ at r = n-radials - r
+μ-loop packet s start size n-radials n-bins first gaps at₀ r₀ at r = n-radials - r
 
 loop-holds : tie.Need-loop-holds Inv-loop μ-loop
-loop-holds c = (omega arith, checked-from _ _ _ _ _ _ (search needs))
+loop-holds c = (omega arith, checked-from _ _ _ _ _ _ _ (search needs))
 
 wrapping-add-usize-requires : tie.Need-wrapping-add-usize-requires Inv-loop μ-loop
 wrapping-add-usize-requires c κs = search needs
@@ -26,13 +26,13 @@ check-radial-requires c κs = search needs
 ends-at-requires : tie.Need-ends-at-requires Inv-loop μ-loop
 ends-at-requires c κs = search needs
 
-add-t14 : tie.Need-add-t14 Inv-loop μ-loop
-add-t14 c = search needs
+add-t15 : tie.Need-add-t15 Inv-loop μ-loop
+add-t15 c = search needs
 
 returns : tie.Need-returns Inv-loop μ-loop
 returns c =
     let at = c .before .before .before .before in
-    (checked-turn _ _ _ _ (at .before .loop .inv .1) (at .loop-test .taken) (c .before .before .check-radial .ensures), (search needs, search needs))
+    (checked-turn _ _ _ _ _ (at .before .loop .inv .1) (at .loop-test .taken) (c .before .before .check-radial .ensures), (search needs, search needs))
 
 add-r : tie.Need-add-r Inv-loop μ-loop
 add-r c = search needs
@@ -44,7 +44,7 @@ loop-again : tie.Need-loop-again Inv-loop μ-loop
 loop-again c =
     let at = c .before .before .before .before in (
       search needs,
-      checked-next _ _ _ _ (at .before .loop .inv .1) (at .loop-test .taken)
+      checked-next _ _ _ _ _ (at .before .loop .inv .1) (at .loop-test .taken)
           (sym (ends-there (c .before .before .check-radial .result) _ (sym (c .before .ends-at .ensures) ∙ not-false _ (c .if1 .left))) ∙ c .before .before .check-radial .ensures),
     )
 
@@ -61,7 +61,7 @@ check-stretch-spec =
     wrapping-add-usize-requires
     check-radial-requires
     ends-at-requires
-    add-t14
+    add-t15
     returns
     add-r
     loop-less

@@ -16,11 +16,11 @@ enum-known-next c = search needs
 
 returns : tie.Need-returns
 unfolding Plans
-returns c = plan-refused _ _ _ (ap nextOf (sym (c .before .error .given .1)) ∙ c .before .before .before .check-radials .ensures)
+returns c = plan-refused _ _ _ _ (ap nextOf (sym (c .before .error .given .1)) ∙ c .before .before .before .check-radials .ensures)
 
 returns-2 : tie.Need-returns-2
 unfolding Plans
-returns-2 c = plan-value _ _ _ (c .before .before .before .before .before .pre) (ap nextOf (sym (c .before .next .given .1)) ∙ c .before .before .before .check-radials .ensures)
+returns-2 c = plan-value _ _ _ _ (c .before .before .before .before .before .pre) (ap nextOf (sym (c .before .next .given .1)) ∙ c .before .before .before .check-radials .ensures)
 
 pub plan-radials-spec : {M : Type 1} → statement M
 plan-radials-spec =

@@ -1,0 +1,54 @@
+use borrow.Author.Needs.{needs}
+use Prim.Native.Nat.{_-_}
+use lib.ListN.{length}
+use Rattle.replay.proofs.lent.check_marks.Statement.{statement}
+use Rattle.replay.proofs.lent.check_marks.Tie as tie
+
+abbrev Inv-loop : tie.InvT-loop
+Inv-loop marks from i₀ t4 i = Unit {0}
+
+abbrev μ-loop : tie.MeasureT-loop
+μ-loop marks from i₀ t4 i = length marks - i
+
+loop-holds : tie.Need-loop-holds Inv-loop μ-loop
+loop-holds c = search needs
+
+shared-slice-read-if1 : tie.Need-shared-slice-read-if1 Inv-loop μ-loop
+shared-slice-read-if1 c = search needs
+
+slice-aggregate-say-touched : tie.Need-slice-aggregate-say-touched Inv-loop μ-loop
+slice-aggregate-say-touched c = search needs
+
+say-touched-requires : tie.Need-say-touched-requires Inv-loop μ-loop
+say-touched-requires c κs = search needs
+
+returns : tie.Need-returns Inv-loop μ-loop
+returns c = search needs
+
+add-i : tie.Need-add-i Inv-loop μ-loop
+add-i c = search needs
+
+loop-less : tie.Need-loop-less Inv-loop μ-loop
+loop-less c = search needs
+
+loop-again : tie.Need-loop-again Inv-loop μ-loop
+loop-again c = search needs
+
+returns-2 : tie.Need-returns-2 Inv-loop μ-loop
+returns-2 c = search needs
+
+pub check-marks-spec : {M : Type 1} → statement M
+check-marks-spec =
+    tie.close
+    (tie.spec
+    Inv-loop
+    μ-loop
+    loop-holds
+    shared-slice-read-if1
+    slice-aggregate-say-touched
+    say-touched-requires
+    returns
+    add-i
+    loop-less
+    loop-again
+    returns-2)
