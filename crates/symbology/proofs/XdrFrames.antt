@@ -1,29 +1,75 @@
 -- Packet 28: a radial's frame, as the code goes through its items. Assumes nothing.
 use Prim.Native.Nat.{ℕ, zero, suc, _+_, _*_, _-_, _≤_}
 use native.Mathlib.Omega.{arith}
-use mathlib.Core.List.{List}
-use mathlib.Core.Bool.{false, _&&_}
+use mathlib.Core.List.{List, [], _∷_}
+use mathlib.Core.Bool.{Bool, true, false, not, _&&_}
 use mathlib.Core.Path.{_≡_, refl, sym, ap, _∙_}
 use lib.ListN.{length}
 use lib.Dec.{eqb, ltb}
 use lib.Ieee.{Float}
-use borrow.Author.Tests.{eqb-true, not-false, ltb-false}
-use Rattle.bytes.specs.Refusal.{Refusal}
+use lib.IntN.{ℤ, pos}
+use lib.Signed.{leZ}
+use borrow.Author.Tests.{eqb-true, not-false, ltb-false, eq-eqb, ne-eqb}
+use Rattle.bytes.specs.Refusal.{Refusal, kind, nat, whole}
 use Rattle.bytes.specs.Result.{accepted, refused}
-use Rattle.bytes.specs.Reading.{Flat, give, Ended, passed, halted, onward, walk}
+use Rattle.bytes.specs.Reading.{Flat, give, _>>_, refuse-if, Ended, passed, halted, onward, walk}
 use Rattle.bytes.proofs.Readings.{walk-then, Parts, parts, parts-by, passed-check, walk-give}
 use Rattle.xdr.proofs.Items.{array-count-end}
 use Rattle.xdr.specs.Xdr.{atLeast0}
 use Rattle.symbology.specs.Symbology.{XdrRadial, xdrFrame}
-use Rattle.symbology.specs.Walk.{expectedOf, xdrRadialThen, xdrRadialSpan, placed}
+use Rattle.symbology.specs.Walk.{expectedOf, frameTested, xdrRadialThen, xdrRadialSpan, placed}
 use Rattle.xdr.specs.declared.xdr.Step.{Step}
 use Rattle.xdr.specs.declared.xdr.Step.the-variants as Step
-use Rattle.xdr.specs.Answers.{stepOf}
+use Rattle.xdr.specs.Answers.{stepOf, from}
+use Rattle.xdr.proofs.Lists.{check-by, check-next}
 
 -- a step with its radial
 pub xdr-radial-then : (centre : Float) (bins : ℕ) (st : Step) → xdrRadialThen centre bins st ≡ onward (stepOf st) (λ _ p. passed (record { centre = centre; bins = bins }) p)
 xdr-radial-then centre bins (Step.At p) = refl
 xdr-radial-then centre bins (Step.Refused e p) = refl
+
+-- what the tests after the six items come to
+module _ {own own' : ℤ} (same : own' ≡ own) (radials r bins expected declared cells p : ℕ) where
+  abbrev Is : Ended (Unit {0}) → Type 0
+  Is e = e ≡ frameTested radials r own bins expected declared cells p
+
+  pub is-29 : {x : Refusal} → leZ own' (pos 0) ≡ true → x ≡ kind 29 (nat radials ∷ whole own' ∷ []) → Is (halted x p)
+  unfolding frameTested
+  is-29 t e = rw (← same, t) (ap (λ y. halted y p) e)
+
+  module _ (positive : leZ own' (pos 0) ≡ false) where
+    pub is-31 : (bins ≡ expected → ⊥) → Is (halted (kind 31 (nat r ∷ nat bins ∷ nat expected ∷ [])) p)
+    unfolding frameTested
+    is-31 t = rw (← same, positive, ne-eqb _ _ t) refl
+
+    module _ (alike : bins ≡ expected) where
+      pub is-32 : (declared ≡ bins → ⊥) → Is (halted (kind 32 (nat r ∷ nat declared ∷ nat bins ∷ [])) p)
+      unfolding frameTested
+      is-32 t = rw (← same, positive, eq-eqb _ _ alike, ne-eqb _ _ t) refl
+
+      module _ (whole-length : declared ≡ bins) {large : Bool} (is : large ≡ (eqb r 0 && ltb 4000000 cells)) where
+        pub is-33 : large ≡ true → Is (halted (kind 33 (nat radials ∷ nat bins ∷ nat cells ∷ nat 4000000 ∷ [])) p)
+        unfolding frameTested
+        is-33 t = rw (← same, positive, eq-eqb _ _ alike, eq-eqb _ _ whole-length, ← is, t) refl
+
+        pub all-passed : large ≡ false → Is (passed tt p)
+        unfolding frameTested
+        all-passed t = rw (← same, positive, eq-eqb _ _ alike, eq-eqb _ _ whole-length, ← is, t) refl
+
+-- and that they are those of the reading, one after another, before what follows them
+pub frame-checked : {B : Type 0} (radials r : ℕ) (own : ℤ) (expected n : ℕ) (u : Flat B) (s : List ℕ) (e : Ended (Unit {0})) {w : Ended (Unit {0})} {y : Ended B}
+    → w ≡ onward e (λ _ p. frameTested radials r own (atLeast0 own) expected n (radials * atLeast0 own) p) → y ≡ from u s w
+    → y ≡ from (refuse-if (leZ own (pos 0)) (kind 29 (nat radials ∷ whole own ∷ []))
+    >> (refuse-if (not (eqb (atLeast0 own) expected)) (kind 31 (nat r ∷ nat (atLeast0 own) ∷ nat expected ∷ []))
+    >> (refuse-if (not (eqb n (atLeast0 own))) (kind 32 (nat r ∷ nat n ∷ nat (atLeast0 own) ∷ []))
+    >> (refuse-if (eqb r 0 && ltb 4000000 (radials * atLeast0 own)) (kind 33 (nat radials ∷ nat (atLeast0 own) ∷ nat (radials * atLeast0 own) ∷ nat 4000000 ∷ []))
+    >> u)))) s e
+unfolding frameTested
+frame-checked radials r own expected n u s e h k =
+    check-next _ _ _ s e _ h λ h₁.
+    check-next _ _ _ s _ _ h₁ λ h₂.
+    check-next _ _ _ s _ _ h₂ λ h₃.
+    check-by _ _ _ s _ h₃ k
 
 first-cells : (r cells : ℕ) → r ≡ 0 → (eqb r 0 && ltb 4000000 cells) ≡ false → cells ≤ 4000000
 first-cells zero cells h k = ltb-false _ _ k

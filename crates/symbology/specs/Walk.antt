@@ -3,12 +3,14 @@
 use Prim.Native.Nat.{ℕ, zero, suc, _+_, _*_, _-_, _/_, _%_, _≤_}
 use mathlib.Core.List.{List, [], _∷_, map}
 use mathlib.Core.Path.{_≡_}
-use mathlib.Core.Bool.{Bool, true, false, not}
-use lib.Dec.{eqb}
+use mathlib.Core.Bool.{Bool, true, false, not, cond, _&&_}
+use lib.Dec.{eqb, ltb}
+use lib.IntN.{ℤ, pos}
+use lib.Signed.{leZ}
 use lib.ListN.{length, set}
 use lib.Seq.{slice}
 use lib.Ieee.{Float}
-use Rattle.bytes.specs.Refusal.{refusalOf, kind, nat}
+use Rattle.bytes.specs.Refusal.{refusalOf, kind, nat, whole}
 use Rattle.bytes.specs.Bytes.{u16At}
 use Rattle.bytes.specs.Result.{Result, accepted, refused, then}
 use Rattle.bytes.specs.Reading.{Read, Flat, gaps, marked, give, remaining, _>>=_, _>>_, radial-data, refuse-if, run, walk, Given, Ended, passed, halted, onward, reached}
@@ -104,6 +106,16 @@ pub record Span : Type 0 where
 unfoldable pub expectedOf : Bool → ℕ → ℕ → ℕ
 expectedOf true bins own = own
 expectedOf false bins own = bins
+
+-- 29, 31, 32, 33 at a position, of a radial with its own number of bins as it was read, that number from 0 up, the one expected, the
+-- number of integers declared, and the cells of the grid
+unfoldable pub frameTested : ℕ → ℕ → ℤ → ℕ → ℕ → ℕ → ℕ → ℕ → Ended (Unit {0})
+frameTested radials r own bins expected declared cells p =
+    cond (leZ own (pos 0)) (halted (kind 29 (nat radials ∷ whole own ∷ [])) p)
+    (cond (not (eqb bins expected)) (halted (kind 31 (nat r ∷ nat bins ∷ nat expected ∷ [])) p)
+    (cond (not (eqb declared bins)) (halted (kind 32 (nat r ∷ nat declared ∷ nat bins ∷ [])) p)
+    (cond (eqb r 0 && ltb 4000000 cells) (halted (kind 33 (nat radials ∷ nat bins ∷ nat cells ∷ nat 4000000 ∷ [])) p)
+    (passed tt p))))
 
 unfoldable pub beamSpan : Packet → ℕ → ℕ → ℕ → Flat Span
 beamSpan packet radials bins r = do

@@ -13,7 +13,7 @@ ghost use Rattle.bytes.specs.Refusal.{refusalOf};
 ghost use Rattle.bytes.specs.Reading.{walk, onward, passed, halted, reached};
 ghost use Rattle.xdr.specs.Answers.{stepOf, from, after};
 ghost use Rattle.symbology.specs.Symbology.{productBlock, xdrFrame, componentHead};
-ghost use Rattle.symbology.specs.Walk.{expectedOf, xdrRadialSpan, placeOf, placed, xdrRadialOf, gatesOf, gatesThen};
+ghost use Rattle.symbology.specs.Walk.{expectedOf, frameTested, xdrRadialSpan, placeOf, placed, xdrRadialOf, gatesOf, gatesThen};
 
 const RADIAL_COMPONENT_TYPE: usize = 1;
 
@@ -59,6 +59,60 @@ fn is_grid_large(r: usize, cells: usize) -> bool
     false
 }
 
+// 29, 31, 32, 33. The refusals' values are put together where one is given, not before: this is done for every radial twice.
+fn test_frame(
+    st: Step,
+    n_radials: usize,
+    r: usize,
+    num_bins: i32,
+    bins: usize,
+    expected: usize,
+    declared: usize,
+    cells: usize,
+) -> Step
+    requires { ⌜ «n_radials» ≤ 100000 ⌝ }
+    ensures { λ x. ⌜ stepOf x ≡ onward (stepOf st) (λ _ p. frameTested «n_radials» r «num_bins» bins expected declared cells p) ⌝ }
+{
+    match st {
+        Step::Refused { error, at } => Step::Refused { error, at },
+        Step::At(at) => {
+            if num_bins <= 0 {
+                let error = Level3DecodeError::NonPositiveXdrGeometry {
+                    n_radials: n_radials as i32,
+                    n_bins: num_bins,
+                };
+                return Step::Refused { error, at };
+            }
+            if bins != expected {
+                let error = Level3DecodeError::XdrRadialBinCountMismatch {
+                    radial: r,
+                    n_bins: bins,
+                    expected,
+                };
+                return Step::Refused { error, at };
+            }
+            if declared != bins {
+                let error = Level3DecodeError::XdrRadialDataLengthMismatch {
+                    radial: r,
+                    declared,
+                    num_bins: bins,
+                };
+                return Step::Refused { error, at };
+            }
+            if is_grid_large(r, cells) {
+                let error = Level3DecodeError::XdrGridTooLarge {
+                    n_radials,
+                    n_bins: bins,
+                    cells,
+                    max: crate::radials::MAX_GATE_COUNT,
+                };
+                return Step::Refused { error, at };
+            }
+            Step::At(at)
+        }
+    }
+}
+
 // A radial's centre and its number of bins, and the position of its data.
 pub struct FrameStep {
     pub centre: f64,
@@ -95,46 +149,11 @@ pub fn xdr_frame(
     let bins = xdr::xdr::at_least_0(num_bins);
     let other = expected_of(first, expected, bins);
     let cells = cells_of(n_radials, bins);
-    let t7 = refuse_if(
-        t6,
-        num_bins <= 0,
-        Level3DecodeError::NonPositiveXdrGeometry {
-            n_radials: n_radials as i32,
-            n_bins: num_bins,
-        },
-    );
-    let t8 = refuse_if(
-        t7,
-        bins != other,
-        Level3DecodeError::XdrRadialBinCountMismatch {
-            radial: r,
-            n_bins: bins,
-            expected: other,
-        },
-    );
-    let t9 = refuse_if(
-        t8,
-        declared != bins,
-        Level3DecodeError::XdrRadialDataLengthMismatch {
-            radial: r,
-            declared,
-            num_bins: bins,
-        },
-    );
-    let t10 = refuse_if(
-        t9,
-        is_grid_large(r, cells),
-        Level3DecodeError::XdrGridTooLarge {
-            n_radials,
-            n_bins: bins,
-            cells,
-            max: crate::radials::MAX_GATE_COUNT,
-        },
-    );
+    let t7 = test_frame(t6, n_radials, r, num_bins, bins, other, declared, cells);
     FrameStep {
         centre: crate::centre::azimuth_centre_28(azimuth, width),
         bins,
-        then: t10,
+        then: t7,
     }
 }
 

@@ -177,3 +177,17 @@ after-give a s (halted x p) = refl
 pub check-as : {B : Type 0} (b : Bool) (x : Refusal) (u : Flat B) (s : List ℕ) (e : Ended (Unit {0})) {c : Bool} {z : Refusal} {w : Ended (Unit {0})} {y : Ended B}
     → c ≡ b → z ≡ x → w ≡ onward e (λ _ p. cond c (halted z p) (passed tt p)) → y ≡ from u s w → y ≡ from (refuse-if b x >> u) s e
 check-as b x u s e {c} {z} p q h k = check-by b x u s e (h ∙ rw (p, q) refl) k
+
+-- the same of a test that others follow, all of them in one
+abbrev one : Bool → Refusal → Ended (Unit {0}) → Ended (Unit {0})
+one b x e = onward e (λ _ p. cond b (halted x p) (on p))
+
+pub check-next : {B : Type 0} (b : Bool) (x : Refusal) (u : Flat B) (s : List ℕ) (e : Ended (Unit {0})) (others : ℕ → Ended (Unit {0}))
+    {w : Ended (Unit {0})} {y : Ended B} → w ≡ onward e (λ _ p. cond b (halted x p) (others p))
+    → (w ≡ onward (one b x e) (λ _ p. others p) → y ≡ from u s (one b x e)) → y ≡ from (refuse-if b x >> u) s e
+check-next b x u s e others h k = check-by b x u s e refl (k (h ∙ by b e))
+  where
+    by : (b : Bool) (e : Ended (Unit {0})) → onward e (λ _ p. cond b (halted x p) (others p)) ≡ onward (one b x e) (λ _ p. others p)
+    by true (passed a p) = refl
+    by false (passed a p) = refl
+    by b (halted y p) = refl
