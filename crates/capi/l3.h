@@ -66,6 +66,9 @@ enum {
     L3_FLOATS = 8
 };
 
+/* Places of ints of l3_date. */
+enum { L3_YEAR = 0, L3_MONTH = 1, L3_DAY = 2 };
+
 enum { L3_PACKET_16 = 16, L3_PACKET_28 = 28, L3_PACKET_AF1F = 44831 };
 
 /* Schemes. parameter is the factor of L3_PRECIPITATION and the post-scale of L3_LEGACY: any float is taken, a NaN or an infinity too.
@@ -125,6 +128,10 @@ uint32_t l3_message_header(const uint8_t *file, size_t file_len, int64_t *ints, 
 /* ints[0]: the scan time in seconds since 1970. clock as in l3_sweep. */
 uint32_t l3_scan_time(uint16_t days, int32_t seconds, uint64_t clock, int64_t *ints, size_t ints_len,
                       double *floats, size_t floats_len);
+
+/* The calendar day of a day number such as ints[L3_DAYS]; day 1 is 1 January 1970, day 65,535 is 5 June 2149. ints[L3_YEAR], [L3_MONTH]
+ * from 1 to 12 and [L3_DAY] from 1 on. Day 0 is refused with 4, its seconds 0. */
+uint32_t l3_date(uint16_t days, int64_t *ints, size_t ints_len, double *floats, size_t floats_len);
 
 /* Field index of the description block at place block. The value is in ints[0]; of L3_FIELD_PAIR, which is two f32, scale and offset are
  * in floats[0] and [1]. */

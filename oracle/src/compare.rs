@@ -229,7 +229,8 @@ impl Compare {
     pub fn random(&mut self, seed: u64, number: u64) {
         let rng = &mut Rng::new(seed, number);
         let case = match rng.below(100) {
-            0..=51 => cases::sweep(rng),
+            0..=50 => cases::sweep(rng),
+            51 => cases::date(rng),
             52..=59 => return self.both_readings(&cases::gaps(rng)),
             60 => cases::each(rng),
             61 => cases::read(rng),

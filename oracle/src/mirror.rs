@@ -2,7 +2,9 @@
 //! counting can be tried without the port. With a slip set it answers wrongly in one known way, which `compare` must find.
 use crate::model;
 use crate::port::{Entries, BAD_ARGUMENT, FLOATS, INTS, OPS, PACKETS, READS, SHORT_REPORT};
-use lines::{Answer, Case, Each, FieldKind, Fields, Geometry, Item, Lent, Packet, Picture, Refusal, Scheme, Sweep, EACH};
+use lines::{
+    Answer, Case, Date, Each, FieldKind, Fields, Geometry, Item, Lent, Packet, Picture, Refusal, Scheme, Sweep, EACH,
+};
 use std::slice::{from_raw_parts, from_raw_parts_mut};
 use std::sync::atomic::{AtomicUsize, Ordering};
 
@@ -52,6 +54,9 @@ slips! {
     GapBeforeLaterRefusal,
     MarksBeforePhysical,
     OneMarkMore,
+    CenturyLeapDay,
+    FirstOfMonthInMonthBefore,
+    Day0Accepted,
 }
 
 /// 1 + the slip's place in `SLIPS`, or 0.
@@ -75,6 +80,7 @@ pub fn entries() -> Entries {
         token,
         message_header,
         scan_time,
+        date,
         field,
         pdb,
         linear,
@@ -383,6 +389,21 @@ unsafe extern "C" fn scan_time(
         return report(ints, ints_len, floats, floats_len).map_or(SHORT_REPORT, |mut r| r.refuse(&Refusal::new(6, &[])));
     }
     reported(case, (ints, ints_len), (floats, floats_len), number)
+}
+
+unsafe extern "C" fn date(days: u16, ints: *mut i64, ints_len: usize, floats: *mut f64, floats_len: usize) -> u32 {
+    // 2100 has no 29 February: its 1 March is day 47,542
+    let leap = slips(CenturyLeapDay) && days >= 47_542;
+    let counted = if slips(Day0Accepted) && days == 0 { 1 } else { days - leap as u16 };
+    reported(Case::Date { days: counted }, (ints, ints_len), (floats, floats_len), |r, given| {
+        let Answer::Date(Date { mut year, mut month, mut day }) = given else { unreachable!() };
+        day += (leap && days == 47_542) as u8;
+        if slips(FirstOfMonthInMonthBefore) && day == 1 {
+            (year, month) = if month == 1 { (year - 1, 12) } else { (year, month - 1) };
+            day = model::month_length(year, month) as u8 + 1;
+        }
+        r.ints[..3].copy_from_slice(&[year.into(), month.into(), day.into()]);
+    })
 }
 
 unsafe extern "C" fn field(

@@ -1,7 +1,7 @@
 //! Document 01's sentences once more, worked out here without the Rust and without the port: where the token, the message
 //! header and the fields stand, what a code's physical value is, where a body's radials stand, which of its bytes are data or
-//! unread, and what row a radial's data make or that they make none; and of document 02 the centres and the gaps.
-use lines::{Packet, Refusal, Scheme, Sweep};
+//! unread, and what row a radial's data make or that they make none; and of document 02 the centres, the gaps and the dates.
+use lines::{Date, Packet, Refusal, Scheme, Sweep};
 use std::ops::Range;
 
 /// The codes of the products.
@@ -297,4 +297,27 @@ pub fn make_gap(sweep: &mut Sweep, radial: usize) {
     let cells = radial * bins..(radial + 1) * bins;
     sweep.picture.codes[cells.clone()].fill(0);
     sweep.physical[cells].fill(f32::NAN);
+}
+
+/// How many days a month has by the Gregorian rule: of the years that end a century every fourth alone has a 29 February.
+pub fn month_length(year: u16, month: u8) -> u16 {
+    match month {
+        4 | 6 | 9 | 11 => 30,
+        2 if year.is_multiple_of(if year.is_multiple_of(100) { 400 } else { 4 }) => 29,
+        2 => 28,
+        _ => 31,
+    }
+}
+
+/// Document 02, M-102: the date of a day number, by counting off the months from January 1970 on, whose first day is day 1.
+pub fn date(days: u16) -> Result<Date, Refusal> {
+    if days == 0 {
+        return Err(Refusal::new(4, &[0, 0]));
+    }
+    let (mut year, mut month, mut day) = (1970, 1, days);
+    while day > month_length(year, month) {
+        day -= month_length(year, month);
+        (year, month) = if month == 12 { (year + 1, 1) } else { (year, month + 1) };
+    }
+    Ok(Date { year, month, day: day as u8 })
 }

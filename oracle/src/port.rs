@@ -9,6 +9,7 @@
 //! |---|---|---|
 //! | l3_token, l3_message_header | 0 place | |
 //! | l3_scan_time | 0 time | |
+//! | l3_date | 0 year, 1 month, 2 day | |
 //! | l3_field | 0 value | 0, 1 the pair |
 //! | l3_pdb, l3_sweep, l3_gaps | 0 token's place (0 in l3_pdb), 1 product code, 2 vcp, 3 days, 4 seconds, 5 time (0 in l3_pdb) | 0-3 latitude, longitude, height, elevation |
 //! | l3_symbology, l3_sweep, l3_gaps | 6 packet (16, 44831 for AF1F, 28), 7 radials, 8 bins, 9 range scale or 0 | 4, 5 gate width, first gate or 0 |
@@ -19,8 +20,8 @@
 //! | l3_read | 0 whether the number is there, 1 the number | |
 use crate::fence::Fence;
 use lines::{
-    Answer, Case, Each, FieldKind, Fields, Geometry, Item, Lent, Packet, Picture, Refusal, Scale, Scheme, Sweep, BUFFERS,
-    EACH,
+    Answer, Case, Date, Each, FieldKind, Fields, Geometry, Item, Lent, Packet, Picture, Refusal, Scale, Scheme, Sweep,
+    BUFFERS, EACH,
 };
 
 macro_rules! entries {
@@ -68,6 +69,7 @@ entries! {
     scan_time: l3_scan_time(
         days: u16, seconds: i32, clock: u64, ints: *mut i64, ints_len: usize, floats: *mut f64, floats_len: usize,
     );
+    date: l3_date(days: u16, ints: *mut i64, ints_len: usize, floats: *mut f64, floats_len: usize);
     field: l3_field(
         file: *const u8, file_len: usize, block: usize, index: usize, kind: u32,
         ints: *mut i64, ints_len: usize, floats: *mut f64, floats_len: usize,
@@ -232,6 +234,14 @@ impl Port {
                     &[],
                     |_, _, i, fl| unsafe { entry(*days, *seconds, clock, i, INTS, fl, FLOATS) },
                     |p| Answer::Number(p.ints[0].into()),
+                )
+            }
+            Case::Date { days } => {
+                let entry = self.entries.date;
+                self.small(
+                    &[],
+                    |_, _, i, fl| unsafe { entry(*days, i, INTS, fl, FLOATS) },
+                    |p| Answer::Date(Date { year: p.whole(0), month: p.whole(1), day: p.whole(2) }),
                 )
             }
             Case::Field { file, block, index, kind } => self.field(file, *block, *index, *kind),
@@ -401,6 +411,7 @@ impl Port {
                 ("l3_token", (e.token)(bytes, 6, i, ints, f, floats)),
                 ("l3_message_header", (e.message_header)(bytes, 6, i, ints, f, floats)),
                 ("l3_scan_time", (e.scan_time)(1, 0, 0, i, ints, f, floats)),
+                ("l3_date", (e.date)(1, i, ints, f, floats)),
                 ("l3_field", (e.field)(bytes, 6, 0, 1, 0, i, ints, f, floats)),
                 ("l3_pdb", (e.pdb)(bytes, 6, 0, i, ints, f, floats)),
                 ("l3_linear", (e.linear)(bytes, 6, 0, i, ints, f, floats)),

@@ -446,7 +446,7 @@ fn buffers(list: &mut List) {
     list.add("walk_before_lent", sweep(Scheme::Class, class(), af1f(5, &[(1, 0, 10, &[0x11, 0])])));
 }
 
-/// M-101, the last lines of the list.
+/// M-101, after the samples.
 pub fn gaps() -> Vec<(String, Case)> {
     let mut list = List(vec![]);
     let (whole, short): (&[u8], &[u8]) = (&[0x31, 0x25], &[0x31, 0x35]);
@@ -501,6 +501,13 @@ pub fn gaps() -> Vec<(String, Case)> {
         list.add(&format!("gaps_{name}"), Case::Gaps { clock: CLOCK, scheme: Scheme::Class, lent, marks, file, body });
     }
     list.0
+}
+
+/// M-102: the first day and the last, and the ends of months and years, of Februaries of every kind above all.
+pub fn dates() -> Vec<(String, Case)> {
+    let days =
+        [0, 1, 31, 32, 59, 60, 365, 366, 789, 790, 791, 11_017, 11_018, 20_000, 47_541, 47_542, 65_530, 65_531, 65_535];
+    days.map(|days| (format!("date_{days}"), Case::Date { days })).to_vec()
 }
 
 /// Rows of 130 cells, so two blocks of 64 and a rest, of every packet under every scheme that it allows.
@@ -607,7 +614,7 @@ fn smaller(list: &mut List) {
     }
 }
 
-/// The edges, cases made from a seed until each refusal and each packet under each scheme has a few, and the gap readings.
+/// The edges, cases made from a seed until each refusal and each packet under each scheme has a few, and what document 02 adds.
 pub fn list() -> Vec<(String, Case)> {
     let mut list = edges();
     let mut seen: HashMap<String, usize> = HashMap::new();
@@ -638,6 +645,7 @@ pub fn list() -> Vec<(String, Case)> {
         }
     }
     list.extend(gaps());
+    list.extend(dates());
     list
 }
 

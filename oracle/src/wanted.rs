@@ -1,10 +1,12 @@
-//! The answer that the port is held to: the Rust's, with what document 02 alters put into it by the model.
+//! The answer that the port is held to: the Rust's, with what document 02 alters put into it by the model, and the model's to what
+//! the Rust has no function for.
 use crate::model;
 use lines::{Answer, Case, Packet, Refusal};
 
 pub fn answer(case: &Case) -> Answer {
     match case {
         Case::Gaps { marks, .. } => gaps(case.clone().ordinary(), *marks),
+        Case::Date { days } => model::date(*days).map_or_else(Answer::Refused, Answer::Date),
         _ => altered(case, radish::answer(case)),
     }
 }

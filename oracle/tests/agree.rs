@@ -34,6 +34,7 @@ fn a_case_survives_its_line() {
             cases::each(rng),
             cases::read(rng),
             cases::scan_time(rng),
+            cases::date(rng),
         ] {
             let line = case.line("name");
             let (name, again) = Case::parse(&line).unwrap();

@@ -10,6 +10,7 @@ use Rattle.bytes.specs.declared.bytes.I16Read.{I16Read}
 use Rattle.bytes.specs.declared.bytes.I16Read.the-variants as I16
 use Rattle.bytes.specs.declared.bytes.I32Read.{I32Read}
 use Rattle.bytes.specs.declared.bytes.I32Read.the-variants as I32
+use Rattle.calendar.specs.declared.date.Date.{Date}
 use Rattle.head.specs.declared.pdb.F32Pair.{F32Pair}
 use Rattle.head.specs.declared.pdb.PdbFields.{PdbFields}
 use Rattle.scale.specs.declared.scaling.LinearScale.{LinearScale}
@@ -31,7 +32,7 @@ use Rattle.capi.specs.declared.places.PicturePlaces.{PicturePlaces}
 use Rattle.capi.specs.declared.places.ScalePlaces.{ScalePlaces}
 use Rattle.capi.specs.Report.{word, report}
 
--- ---- small values: nothing, a number, a signed number, a float, two floats, a part of the payload
+-- ---- small values: nothing, a number, a signed number, a float, two floats, a part of the payload, a date
 
 abbrev pub noReport : {A : Type 0} → A → Report
 noReport a = report 0 [] []
@@ -63,6 +64,9 @@ i32Report I32.Nothing = report 0 (0 ∷ []) []
 
 abbrev pub partReport : Part → Report
 partReport p = report 0 (p .start ∷ p .len ∷ []) []
+
+abbrev pub dateReport : Date → Report
+dateReport d = report 0 (d .year ∷ d .month ∷ d .day ∷ []) []
 
 -- ---- file, picture and scale
 

@@ -1,6 +1,7 @@
 // The reader behind C functions. l3.h says what each one takes, returns and writes.
 pub mod body;
 mod copies;
+pub mod dates;
 pub mod header;
 pub mod items;
 pub mod pdb;

@@ -35,6 +35,9 @@ fn plain_kind(line: &[u8]) -> Kind {
     if is(line, b"time") {
         return Kind::Time;
     }
+    if is(line, b"date") {
+        return Kind::Date;
+    }
     if is(line, b"leg") {
         return Kind::Legacy;
     }
@@ -132,6 +135,7 @@ fn is_formed(line: &[u8], kind: Kind) -> bool {
         Kind::Gaps => has(line, b"wwcsnnnnbb"),
         Kind::Symbology | Kind::Token | Kind::Header | Kind::Trailing => has(line, b"wwb"),
         Kind::Time => has(line, b"wwchz"),
+        Kind::Date => has(line, b"wwh"),
         Kind::Field => has(line, b"wwbnnk"),
         Kind::Block | Kind::Linear | Kind::Float | Kind::Threshold => has(line, b"wwbn"),
         Kind::Precip => has(line, b"wwbnx"),

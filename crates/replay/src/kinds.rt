@@ -9,6 +9,7 @@ pub enum Kind {
     Token,
     Header,
     Time,
+    Date,
     Field,
     Block,
     Linear,

@@ -87,6 +87,13 @@ fn print_linear(ints: &[u64], floats: &[f64]) {
     named(b" ", int(ints, 11));
 }
 
+// Year, month and day.
+fn print_date(ints: &[u64]) {
+    named(b"", int(ints, 0));
+    named(b" ", int(ints, 1));
+    named(b" ", int(ints, 2));
+}
+
 fn print_accepted(kind: Kind, line: &[u8], bytes: &[u8], ints: &[u64], floats: &[f64]) {
     match kind {
         Kind::Token => {
@@ -99,6 +106,7 @@ fn print_accepted(kind: Kind, line: &[u8], bytes: &[u8], ints: &[u64], floats: &
         Kind::Linear => print_linear(ints, floats),
         Kind::Float => print_linear(ints, floats),
         Kind::Precip => print_precip(ints, floats),
+        Kind::Date => print_date(ints),
         _ => signed(int(ints, 0)),
     }
 }
@@ -140,6 +148,7 @@ fn ask(kind: Kind, line: &[u8], file: &[u8], ints: &mut [u64], floats: &mut [f64
             ints,
             floats,
         ),
+        Kind::Date => capi::dates::l3_date(crate::words::unsigned16(word(line, 2)), ints, floats),
         _ => ask_block(kind, line, file, ints, floats),
     }
 }
@@ -159,7 +168,7 @@ fn print(kind: Kind, line: &[u8], file: &[u8], number: u32, ints: &[u64], floats
     }
 }
 
-// Word 2 is the file, but for the time, which has none.
+// Word 2 is the file, but for the time and the date, which have none.
 pub fn answer(kind: Kind, line: &[u8]) {
     let mut file = crate::hex::room();
     let n = crate::hex::read(word(line, 2), &mut file);

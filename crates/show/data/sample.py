@@ -4,6 +4,7 @@ of them with the scheme halfword. Nothing is decoded here: the text is worked ou
     python3 sample.py >../stdout
 """
 import struct
+from datetime import datetime, timedelta
 from fractions import Fraction as Q
 
 # Description block: field i is the halfword at 2 * (i - 1).
@@ -71,6 +72,9 @@ line("elevation", fixed(Q(ELEVATION, 10), 3), " degrees")
 line("scan days", DAYS)
 line("scan seconds", SECONDS)
 line("scan time", (DAYS - 1) * 86400 + SECONDS, " seconds since 1970")
+scan = datetime(1970, 1, 1) + timedelta(DAYS - 1, SECONDS)
+line("scan date", scan.strftime("%Y-%m-%d"))
+line("time of day", scan.strftime("%H:%M:%S"), " UTC")
 line("scale minimum", fixed(Q(MINIMUM, 10), 6))
 line("scale step", fixed(Q(STEP, 10), 6))
 line("scale levels", LEVELS)

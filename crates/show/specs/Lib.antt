@@ -1,3 +1,4 @@
+pub mod Dates
 pub mod Gaps
 pub mod InPart
 pub mod Rounded

@@ -8,6 +8,7 @@ use sweep::plan::HeadRead;
 
 mod answer;
 mod buffers;
+mod dates;
 mod files;
 mod floats;
 mod picture;

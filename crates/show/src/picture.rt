@@ -1,4 +1,5 @@
 // An accepted sweep in words: what the file says, the scale, the figures, and the first cells of the first radials.
+use calendar::date::DateRead;
 use head::pdb::PdbFields;
 use scale::physical::Declared;
 use scale::scaling::DeclaredLinearScale;
@@ -60,6 +61,27 @@ fn print_token(file: &[u8], at: usize) {
     }
 }
 
+fn date_line(days: u16) {
+    label(b"scan date");
+    match calendar::date::calendar_day(days) {
+        DateRead::Value(d) => {
+            let text = crate::dates::date_text(d);
+            crate::text::right(&text, 16);
+        }
+        // Day 0, which no accepted head has.
+        DateRead::Refused(_) => crate::text::right(b"-", 16),
+    }
+    crate::text::say(b"\n");
+}
+
+// An accepted head has a second of the day, 0 to 86,399.
+fn time_line(seconds: i32) {
+    label(b"time of day");
+    let text = crate::dates::time_text(xdr::xdr::at_least_0(seconds));
+    crate::text::right(&text, 16);
+    crate::text::say(b" UTC\n");
+}
+
 fn print_fields(f: PdbFields, time: u64) {
     double_line(b"latitude", f.lat, b" degrees\n");
     double_line(b"longitude", f.lon, b" degrees\n");
@@ -72,6 +94,8 @@ fn print_fields(f: PdbFields, time: u64) {
     label(b"scan time");
     crate::text::right_whole(time, 16);
     crate::text::say(b" seconds since 1970\n");
+    date_line(f.scan_days);
+    time_line(f.scan_seconds);
 }
 
 fn print_scale(s: DeclaredLinearScale) {

@@ -107,6 +107,13 @@ pub struct Sweep {
     pub physical: Vec<f32>,
 }
 
+#[derive(Debug, Clone, Copy, PartialEq, Eq)]
+pub struct Date {
+    pub year: u16,
+    pub month: u8,
+    pub day: u8,
+}
+
 /// One XDR item. A string that is not ASCII is `Text(None)`: it is not compared.
 #[derive(Debug, Clone)]
 pub enum Item {
@@ -134,6 +141,7 @@ pub enum Answer {
     Picture(Box<Picture>),
     Token([u8; 6]),
     Number(i128),
+    Date(Date),
     Pair(f32, f32),
     Fields(Fields),
     Scaling {
@@ -322,6 +330,7 @@ impl Answer {
             (Picture(a), Picture(b)) => a.same(b),
             (Token(a), Token(b)) => a == b,
             (Number(a), Number(b)) => a == b,
+            (Date(a), Date(b)) => a == b,
             (Pair(a, b), Pair(c, d)) => same_f32(*a, *c) && same_f32(*b, *d),
             (Fields(a), Fields(b)) => a.same(b),
             (Scaling { minimum: a, step: b, levels: c }, Scaling { minimum: d, step: e, levels: f }) => {
@@ -453,6 +462,7 @@ impl Display for Answer {
             Answer::Picture(p) => write!(f, "A {p}"),
             Answer::Token(t) => write!(f, "A {} {}", t[..3].escape_ascii(), t[3..].escape_ascii()),
             Answer::Number(n) => write!(f, "A {n}"),
+            Answer::Date(Date { year, month, day }) => write!(f, "A {year} {month} {day}"),
             Answer::Pair(a, b) => write!(f, "A f{:08x} f{:08x}", bits32(*a), bits32(*b)),
             Answer::Fields(p) => write!(f, "A {p}"),
             Answer::Scaling { minimum, step, levels } => {

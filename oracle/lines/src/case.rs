@@ -58,6 +58,10 @@ pub enum Case {
         days: u16,
         seconds: i32,
     },
+    /// The date of a day number.
+    Date {
+        days: u16,
+    },
     Field {
         file: Vec<u8>,
         block: usize,
@@ -214,6 +218,7 @@ impl Case {
             Case::Token { .. } => "token",
             Case::Mhb { .. } => "mhb",
             Case::Time { .. } => "time",
+            Case::Date { .. } => "date",
             Case::Field { .. } => "field",
             Case::Pdb { .. } => "pdb",
             Case::Lin { .. } => "lin",
@@ -267,6 +272,7 @@ impl Case {
             "token" => Case::Token { file: bytes(2)? },
             "mhb" => Case::Mhb { file: bytes(2)? },
             "time" => Case::Time { clock: number(word(2)?)?, days: number(word(3)?)?, seconds: number(word(4)?)? },
+            "date" => Case::Date { days: number(word(2)?)? },
             "field" => Case::Field {
                 file: bytes(2)?,
                 block: number(word(3)?)?,
@@ -315,6 +321,7 @@ impl Case {
             Case::Sym { body } => hex(body),
             Case::Token { file } | Case::Mhb { file } => hex(file),
             Case::Time { clock, days, seconds } => format!("{clock} {days} {seconds}"),
+            Case::Date { days } => days.to_string(),
             Case::Field { file, block, index, kind } => format!("{} {block} {index} {}", hex(file), kind.text()),
             Case::Pdb { file, block }
             | Case::Lin { file, block }

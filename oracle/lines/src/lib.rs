@@ -4,6 +4,6 @@ mod case;
 mod text;
 
 pub use answer::{same_f32, same_f64, BUFFERS, ITEMS, NAMES};
-pub use answer::{Answer, Each, Fields, Geometry, Item, Packet, Picture, Refusal, Scale, Sweep};
+pub use answer::{Answer, Date, Each, Fields, Geometry, Item, Packet, Picture, Refusal, Scale, Sweep};
 pub use case::{Case, FieldKind, Lent, Scheme, EACH};
 pub use text::{hex, unhex};

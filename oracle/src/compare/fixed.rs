@@ -1,5 +1,6 @@
-//! The cases that every run has: short inputs exhaustively, every length of small files and bodies, every byte of them, rows of every
-//! length up to 200 cells, radials of every mix of lengths, gaps in all of these, the places outside the Rust's domain, the caps, and the two grid sizes.
+//! The cases that every run has: short inputs and day numbers exhaustively, every length of small files and bodies, every byte of
+//! them, rows of every length up to 200 cells, radials of every mix of lengths, gaps in all of these, the places outside the Rust's
+//! domain, the caps, and the two grid sizes.
 use super::Compare;
 use crate::make::body::{self, Body};
 use crate::make::{cases, file, Rng};
@@ -42,6 +43,7 @@ impl Compare {
         self.codes();
         self.texts();
         self.times();
+        self.dates();
         self.fields();
         self.blocks(seed);
         self.levels(seed);
@@ -120,6 +122,13 @@ impl Compare {
                     self.both(&Case::Time { clock, days, seconds });
                 }
             }
+        }
+    }
+
+    /// Every day number.
+    fn dates(&mut self) {
+        for days in 0..=65_535 {
+            self.both(&Case::Date { days });
         }
     }
 

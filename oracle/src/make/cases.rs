@@ -235,6 +235,17 @@ pub fn scan_time(rng: &mut Rng) -> Case {
     Case::Time { clock: time.clock, days: time.days, seconds: time.seconds }
 }
 
+/// A day number: any, near the first and the last, or around the end of a February.
+pub fn date(rng: &mut Rng) -> Case {
+    let days = match rng.below(8) {
+        0 => rng.below(4) as u16,
+        1 => 65_535 - rng.below(8) as u16,
+        2 => rng.pick(&[58, 789, 11_015, 47_540]) + rng.below(4) as u16,
+        _ => rng.u16(),
+    };
+    Case::Date { days }
+}
+
 pub const KINDS: [FieldKind; 4] = [FieldKind::I16, FieldKind::U16, FieldKind::I32, FieldKind::Pair];
 
 /// A field inside the Rust's domain, near the file's end as often as not.

@@ -1,0 +1,4 @@
+pub mod Lengths
+pub mod Rule
+pub mod Search
+pub mod Days
