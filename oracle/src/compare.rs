@@ -5,7 +5,7 @@ use crate::model;
 use crate::port::{Entries, Outcome, Port};
 use crate::trap;
 use crate::wanted;
-use lines::{Answer, Case, Lent, Packet, Refusal, Scheme, Sweep, NAMES};
+use lines::{same_f32, Answer, Case, Lent, Packet, Refusal, Scheme, Sweep, NAMES};
 use std::collections::BTreeMap;
 
 mod fixed;
@@ -63,14 +63,16 @@ impl Compare {
         if rust.same(&port) {
             self.values(case, &rust);
         }
+        self.legacy(case, &port);
         (rust, port)
     }
 
     /// Holds the port to an answer that document 01's table gives where the Rust is outside its domain.
     pub fn table(&mut self, case: &Case, answer: Answer) {
         self.counts.count(case, &answer);
-        self.hold(case, &answer, Lent { azimuths: 0, codes: 0, physical: 0 });
+        let port = self.hold(case, &answer, Lent { azimuths: 0, codes: 0, physical: 0 });
         self.values(case, &answer);
+        self.legacy(case, &port);
     }
 
     fn hold(&mut self, case: &Case, want: &Answer, lent: Lent) -> Answer {
@@ -151,6 +153,53 @@ impl Compare {
         if !want.same(&port) || fault.is_some() {
             let why = format!("the values alone in {lent} places {}", fault.unwrap_or_default());
             self.differs(&why, case, &[("wanted", want), ("port", &port)]);
+        }
+    }
+
+    /// M-103, between the port's entries: what `l3_legacy16` gives of `l3_threshold`'s 32 bytes are the levels that a legacy sweep and
+    /// `l3_physical` give, and both refuse with 3 and index 22 exactly if `l3_threshold` does.
+    fn legacy(&mut self, case: &Case, given: &Answer) {
+        let head = |r: &Refusal| matches!(r.number, 1 | 2 | 4..=6) || r.number == 3 && r.ints[0] != 22;
+        let (file, block, post_scale) = match case {
+            Case::Thr { file, block } => {
+                let odd = [1.0, 0.514444, -0.0, f32::INFINITY, f32::MIN_POSITIVE, f32::NAN];
+                (file, *block, odd[(self.counts.cases % 6) as usize])
+            }
+            Case::Sweep { file, scheme: Scheme::Legacy(post_scale), .. }
+            | Case::Gaps { file, scheme: Scheme::Legacy(post_scale), .. }
+                if !given.refusal().is_some_and(head) =>
+            {
+                (file, trap::during(case, || self.port.block(file)), *post_scale)
+            }
+            _ => return,
+        };
+        let levels = trap::during(case, || self.port.levels_at(file, block, post_scale));
+        let codes: Vec<u16> = (0..16).collect();
+        let values = trap::during(case, || self.port.values(file, block, Scheme::Legacy(post_scale), &codes, 18));
+        let values = values.map_or_else(Answer::Refused, |v| Answer::Levels(v.try_into().unwrap()));
+        self.counts.cases += 1;
+        *self.counts.kinds.entry("levels").or_default() += 1;
+        match levels.refusal() {
+            Some(r) => self.counts.count_refusal(r.number),
+            None => self.counts.accepted += 1,
+        }
+        let valued = |sweep: &Sweep, marks: &[u8], levels: &[f32; 16]| {
+            let cells = sweep.picture.codes.iter().zip(&sweep.physical).enumerate();
+            let mut whole = cells.filter(|(cell, _)| marks.get(cell / sweep.picture.bins) != Some(&1));
+            whole.all(|(_, (code, value))| levels.get(*code as usize).is_some_and(|level| same_f32(*value, *level)))
+        };
+        let read = match (given, &levels) {
+            (Answer::Thresholds(_), Answer::Levels(_)) => true,
+            (Answer::Sweep(sweep), Answer::Levels(levels)) => valued(sweep, &[], levels),
+            (Answer::Gaps(sweep, marks), Answer::Levels(levels)) => valued(sweep, marks, levels),
+            (Answer::Refused(r), Answer::Levels(_)) => r.number != 3,
+            (Answer::Refused(r), Answer::Refused(refused)) => r.same(refused),
+            _ => false,
+        };
+        let fault = self.port.take_fault();
+        if !read || !levels.same(&values) || fault.is_some() {
+            let why = format!("not the levels of the thresholds {}", fault.unwrap_or_default());
+            self.differs(&why, case, &[("by the thresholds", &levels), ("l3_physical", &values), ("port", given)]);
         }
     }
 

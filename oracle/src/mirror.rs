@@ -57,6 +57,9 @@ slips! {
     CenturyLeapDay,
     FirstOfMonthInMonthBefore,
     Day0Accepted,
+    CutLevelsPassed,
+    LevelFieldNamed,
+    BlockStartWraps,
 }
 
 /// 1 + the slip's place in `SLIPS`, or 0.
@@ -536,9 +539,20 @@ unsafe extern "C" fn physical(
 ) -> u32 {
     let Some(mut report) = report(ints, ints_len, floats, floats_len) else { return SHORT_REPORT };
     let Some(scheme) = Scheme::of(scheme as usize, parameter) else { return BAD_ARGUMENT };
-    let (file, codes) = (bytes(f, n), from_raw_parts(codes, codes_len));
+    let (mut file, mut block, codes) = (bytes(f, n), block, from_raw_parts(codes, codes_len));
     let physical = from_raw_parts_mut(physical, physical_len);
-    if let Some(Answer::Refused(r)) = scale_fields(&file, block, scheme).map(|case| answer(&case)) {
+    if slips(BlockStartWraps) && block.checked_add(42).is_none() {
+        let from = block.wrapping_add(42).min(n);
+        (file, block) = ([&[0; 42], &file[from..]].concat(), 0);
+    }
+    let level_there = |level: u16| model::field_place(n, block, 22 + level as usize, 2).is_some();
+    if slips(CutLevelsPassed) && matches!(scheme, Scheme::Legacy(_)) && codes.iter().all(|code| level_there(*code)) {
+        file.resize(n.max(block.saturating_add(74)), 0);
+    }
+    if let Some(Answer::Refused(mut r)) = scale_fields(&file, block, scheme).map(|case| answer(&case)) {
+        if slips(LevelFieldNamed) && matches!(scheme, Scheme::Legacy(_)) {
+            r.ints[0] = 22 + (0..15).take_while(|level| level_there(*level)).count() as i128;
+        }
         return report.refuse(&r);
     }
     if physical.len() < codes.len() {

@@ -336,7 +336,15 @@ impl Port {
         Ok(self.physical.memory[..written].iter().map(|b| f32::from_bits(*b)).collect())
     }
 
-    /// The fault of the last `xdr_at` or `values`.
+    /// The levels of the thresholds of the block at a place.
+    pub fn levels_at(&mut self, file: &[u8], block: usize, post_scale: f32) -> Answer {
+        match self.thresholds(file, block) {
+            Answer::Thresholds(thresholds) => self.levels(&thresholds, post_scale),
+            refused => refused,
+        }
+    }
+
+    /// The fault of the last `xdr_at`, `values` or `levels_at`.
     pub fn take_fault(&mut self) -> Option<String> {
         self.fault.take()
     }

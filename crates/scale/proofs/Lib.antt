@@ -5,3 +5,4 @@ pub mod Levels
 pub mod Copied
 pub mod Filling
 pub mod Examples
+pub mod Thresholds

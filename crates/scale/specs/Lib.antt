@@ -3,3 +3,4 @@ pub mod Legacy
 pub mod Outcome
 pub mod Pdb
 pub mod Physical
+pub mod Thresholds

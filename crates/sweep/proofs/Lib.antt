@@ -11,6 +11,7 @@ pub mod Table
 pub mod Timed
 pub mod Reading
 pub mod Circle
+pub mod Thresholds
 pub mod Blanks
 pub mod Blanking
 pub mod GapReading

@@ -47,6 +47,7 @@ impl Compare {
         self.fields();
         self.blocks(seed);
         self.levels(seed);
+        self.thresholds(seed);
         self.xdr_words();
         self.items();
         self.reads();
@@ -230,6 +231,18 @@ impl Compare {
                 let post_scale = if rng.one_in(2) { rng.odd_f32() } else { rng.plain_f32() };
                 self.both(&Case::Leg { thresholds, post_scale });
             }
+        }
+    }
+
+    /// The thresholds of every block start around the file and just below 2^64, where the place would wrap.
+    fn thresholds(&mut self, seed: u64) {
+        let rng = &mut Rng::new(seed, u64::MAX / 19);
+        let file = file::file(rng, Scheme::Legacy(1.0), 20_000, 3600).bytes;
+        for block in 0..file.len() + 3 {
+            self.both(&Case::Thr { file: file.clone(), block });
+        }
+        for block in usize::MAX - file.len()..=usize::MAX {
+            self.table(&Case::Thr { file: file.clone(), block }, Answer::Refused(Refusal::new(3, &[22])));
         }
     }
 

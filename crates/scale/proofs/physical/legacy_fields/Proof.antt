@@ -1,3 +1,7 @@
+use mathlib.Core.Path.{sym, ap, _∙_}
+use Rattle.bytes.specs.Result.{accepted, then}
+use Rattle.head.specs.Outcome.{place}
+use Rattle.scale.specs.declared.physical.Scaling.the-variants as Scaling
 use Rattle.scale.specs.Pdb.{thresholdPlace}
 use borrow.Author.Needs.{needs}
 use Rattle.scale.proofs.physical.legacy_fields.Statement.{statement}
@@ -14,11 +18,11 @@ enum-known-e c = search needs
 
 returns : tie.Need-returns
 unfolding thresholdPlace
-returns c = rw (← (c .before .before .before .field-at .ensures), c .before .k .given .1)
+returns c = ap (λ r. then r λ k. accepted (Scaling.Legacy k (c .before .before .before .before .before .args .post-scale))) (ap place (sym (c .before .k .given .1)) ∙ c .before .before .before .field-at .ensures)
 
 returns-2 : tie.Need-returns-2
 unfolding thresholdPlace
-returns-2 c = rw (← (c .before .before .before .field-at .ensures), c .before .e .given .1)
+returns-2 c = ap (λ r. then r λ k. accepted (Scaling.Legacy k (c .before .before .before .before .before .args .post-scale))) (ap place (sym (c .before .e .given .1)) ∙ c .before .before .before .field-at .ensures)
 
 pub legacy-fields-spec : {M : Type 1} → statement M
 legacy-fields-spec =
