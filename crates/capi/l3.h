@@ -7,7 +7,7 @@
  *
  * What is returned:
  *   0        accepted (l3_known: 1 for a known code, else 0)
- *   1 to 36  refused; the number is the one of the README's table
+ *   1 to 39  refused; the number is the one of the README's table
  *   100      L3_SHORT_REPORT: ints has fewer than 16 places, or floats fewer than 8
  *   101      L3_BAD_ARGUMENT: an argument that the function does not take: an unknown scheme, kind or item, an array of a length that is
  *            not the one asked for
@@ -49,6 +49,7 @@ enum {
     L3_LEVELS = 11,       /* its level count */
     L3_FLOOR = 12,        /* its floor */
     L3_CEILING = 13,      /* l3_precip alone: the ceiling, or -1 */
+    L3_FIELDS = 14,       /* l3_totals alone: how many fields the plan has */
     L3_POSITION = 15,     /* l3_xdr alone */
     L3_INTS = 16
 };
@@ -89,7 +90,7 @@ enum {
     L3_CUT_ARRAY_BODY = 5,
     L3_CUT_PACKET_BODY = 6
 };
-enum { L3_AZIMUTHS = 0, L3_CODES = 1, L3_PHYSICAL = 2, L3_MARKS = 3 };
+enum { L3_AZIMUTHS = 0, L3_CODES = 1, L3_PHYSICAL = 2, L3_MARKS = 3, L3_TOTALS = 4 };
 
 /* How many message codes are known. */
 enum { L3_KNOWN_CODES = 26 };
@@ -111,6 +112,21 @@ uint32_t l3_gaps(const uint8_t *file, size_t file_len, uint64_t clock, uint32_t 
                  const uint8_t *body, size_t body_len, double *azimuths, size_t azimuths_len,
                  uint16_t *codes, size_t codes_len, float *physical, size_t physical_len, uint8_t *marks, size_t marks_len,
                  int64_t *ints, size_t ints_len, double *floats, size_t floats_len);
+
+/* The sweep as by l3_sweep, and a total for each field of a field plan. plan is a file of records: a tag (one byte), a length (two bytes),
+ * the content; all numbers are unsigned and big-endian. Tag 1, length 2: the number of a field. Tag 2, length 8: a strip of the field
+ * named last, as radial, first gate, number of gates and weight, two bytes each; radials and gates are counted from 0. A field's total is
+ * the sum over the cells of its strips of weight * (code - floor), for codes from the floor up to the ceiling if there is one; a cell
+ * under several strips counts for each of them. Accepted, the totals stand in the front of totals in the order of the plan,
+ * ints[L3_FIELDS] of them, each below 2^60; later places are left as they are. A plan of no bytes has no fields and is accepted.
+ * Refused are, in this order: what l3_sweep refuses, where any scheme but L3_PRECIPITATION is 10; with 37 a record that is cut short or
+ * has another tag or length, a strip before any field, one of no gates, and strip 4,097; with 38 a field's number that was named before;
+ * with 39 a strip that leaves the picture; with 36 a totals of fewer places than fields. 37, 38 and 39 have the record's offset in
+ * ints[0], and each is looked for in the whole plan before the next. After a refusal the buffers are as they were. */
+uint32_t l3_totals(const uint8_t *file, size_t file_len, uint64_t clock, uint32_t scheme, float parameter,
+                   const uint8_t *body, size_t body_len, const uint8_t *plan, size_t plan_len,
+                   double *azimuths, size_t azimuths_len, uint16_t *codes, size_t codes_len, float *physical, size_t physical_len,
+                   uint64_t *totals, size_t totals_len, int64_t *ints, size_t ints_len, double *floats, size_t floats_len);
 
 /* A symbology body alone, of any packet. ints[L3_PACKET] to [L3_RANGE_SCALE], floats[L3_GATE_WIDTH] and [L3_FIRST_GATE] and the two
  * buffers as in l3_sweep. */

@@ -9,6 +9,7 @@ use lines::{same_f32, Answer, Case, Lent, Packet, Refusal, Scheme, Sweep, NAMES}
 use std::collections::BTreeMap;
 
 mod fixed;
+mod plans;
 
 /// How many were accepted and how many refused.
 #[derive(Debug, Clone, Copy, Default)]
@@ -30,6 +31,10 @@ pub struct Counts {
     /// Gap readings whose body names the packet, and how many of them gave a gap.
     pub gaps: [[Split; 5]; 3],
     pub with_gap: [u64; 3],
+    /// Field plans with a body that names the packet.
+    pub plans: [[Split; 5]; 3],
+    /// Accepted plans with a strip cut in two, with a strip moved, with another code in a cell.
+    pub plan_laws: [u64; 3],
     /// Second bodies of demand 3.
     pub damaged: [[Split; 5]; 3],
 }
@@ -82,7 +87,13 @@ impl Compare {
             why.push("the answers differ".to_string());
         }
         why.extend(fault);
-        if let (Some(place), Case::Token { file } | Case::Sweep { file, .. } | Case::Gaps { file, .. }) = (place, case) {
+        let place_in = match case {
+            Case::Token { file } | Case::Sweep { file, .. } | Case::Gaps { file, .. } | Case::Plan { file, .. } => {
+                Some(file)
+            }
+            _ => None,
+        };
+        if let (Some(place), Some(file)) = (place, place_in) {
             if model::token_place(file) != Some(place) {
                 why.push(format!("the token's place is given as {place}"));
             }
@@ -278,7 +289,9 @@ impl Compare {
     pub fn random(&mut self, seed: u64, number: u64) {
         let rng = &mut Rng::new(seed, number);
         let case = match rng.below(100) {
-            0..=50 => cases::sweep(rng),
+            0..=43 => cases::sweep(rng),
+            44..=48 => return drop(self.plan(&cases::plan(rng))),
+            49 | 50 => return self.plan_laws(rng),
             51 => cases::date(rng),
             52..=59 => return self.both_readings(&cases::gaps(rng)),
             60 => cases::each(rng),
@@ -351,14 +364,18 @@ impl Counts {
             Some(r) => self.count_refusal(r.number),
             None => self.accepted += 1,
         }
-        if let Case::Sweep { scheme, body, .. } | Case::Gaps { scheme, body, .. } = case {
+        if let Case::Sweep { scheme, body, .. } | Case::Gaps { scheme, body, .. } | Case::Plan { scheme, body, .. } = case {
             let packet = match body.get(16..18) {
                 Some([0, 16]) => Packet::P16,
                 Some([0xaf, 0x1f]) => Packet::Af1f,
                 Some([0, 28]) => Packet::P28,
                 _ => return,
             };
-            let table = if matches!(case, Case::Gaps { .. }) { &mut self.gaps } else { &mut self.sweeps };
+            let table = match case {
+                Case::Gaps { .. } => &mut self.gaps,
+                Case::Plan { .. } => &mut self.plans,
+                _ => &mut self.sweeps,
+            };
             table[packet as usize][scheme.index()].count(answer);
             if matches!(answer, Answer::Gaps(_, marks) if marks.contains(&1)) {
                 self.with_gap[packet as usize] += 1;
@@ -373,7 +390,7 @@ impl Counts {
     /// Refusals and packets under schemes that did not occur.
     pub fn missing(&self) -> Vec<String> {
         let mut missing: Vec<String> =
-            (1..=36).filter(|n| !self.refusals.contains_key(n)).map(|n| format!("refusal {n}")).collect();
+            (1..=NAMES.len() as u32).filter(|n| !self.refusals.contains_key(n)).map(|n| format!("refusal {n}")).collect();
         for packet in Packet::ALL {
             for (scheme, name) in Scheme::NAMES.iter().enumerate() {
                 let [split, gaps] = [self.sweeps, self.gaps].map(|table| table[packet as usize][scheme]);
@@ -388,6 +405,9 @@ impl Counts {
                 if fits && gaps.accepted == 0 {
                     missing.push(format!("a gap reading of packet {} under {name}", packet.name()));
                 }
+            }
+            if self.plans[packet as usize][2].accepted == 0 {
+                missing.push(format!("a plan of packet {}", packet.name()));
             }
             if packet != Packet::P16 && self.with_gap[packet as usize] == 0 {
                 missing.push(format!("a gap in packet {}", packet.name()));
@@ -410,6 +430,9 @@ impl Counts {
         print_table("gap readings by packet and scheme, accepted / refused:", &self.gaps);
         let [_, af1f, generic] = self.with_gap;
         println!("  with a gap: packet AF1F {af1f}, packet 28 {generic}");
+        print_table("field plans by packet and scheme, accepted / refused:", &self.plans);
+        let [cut, moved, code] = self.plan_laws;
+        println!("  held to another: a strip cut in two {cut}, a strip moved {moved}, another code in a cell {code}");
         print_table("damaged bodies (demand 3), accepted / refused:", &self.damaged);
         let missing = self.missing();
         if !missing.is_empty() {

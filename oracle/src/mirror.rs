@@ -8,6 +8,8 @@ use lines::{
 use std::slice::{from_raw_parts, from_raw_parts_mut};
 use std::sync::atomic::{AtomicUsize, Ordering};
 
+mod plans;
+
 macro_rules! slips {
     ($($name:ident,)*) => {
         /// Wrong readings, each of which a run must tell from the right one.
@@ -60,6 +62,47 @@ slips! {
     CutLevelsPassed,
     LevelFieldNamed,
     BlockStartWraps,
+    RepeatedBeforeMalformed,
+    FirstFaultOfRecords,
+    OutsideBeforeRepeated,
+    PlanBeforeLent,
+    TotalsLentBeforePlan,
+    MismatchBeforeBody,
+    MismatchAfterStep,
+    MismatchAfterLent,
+    FittingSchemePasses,
+    PlanLittleEndian,
+    CutRecordEndsPlan,
+    UnknownTagsSkipped,
+    LongerRecordsPass,
+    StripBeforeFieldPasses,
+    NoGatesPass,
+    StripsCountedByField,
+    OneStripFewer,
+    EmptyPlanRefused,
+    ContentNamed,
+    RecordNumberNamed,
+    FirstNamingNamed,
+    NextFieldsAloneCompared,
+    GateSumWraps,
+    LastGateOutside,
+    RadialsFrom1,
+    GatesFrom1,
+    CeilingExcluded,
+    CeilingIgnored,
+    LowCeilingIgnored,
+    FloorNotTakenOff,
+    BelowFloorCounted,
+    CellCountedOnce,
+    LastGateLeftOut,
+    StripsOfFirstField,
+    FieldsWithoutStripsSkipped,
+    TotalsByNumber,
+    TotalsIn32Bits,
+    WeightSigned,
+    OneTotalMore,
+    RefusalWritesTotals,
+    PlanWritesNoPicture,
 }
 
 /// 1 + the slip's place in `SLIPS`, or 0.
@@ -79,6 +122,7 @@ pub fn entries() -> Entries {
     Entries {
         sweep,
         gaps,
+        totals,
         symbology,
         token,
         message_header,
@@ -205,20 +249,21 @@ unsafe fn reported(
     }
 }
 
-/// Bytes, a clock, a scheme and its parameter, and bytes: what a sweep is read from.
-type Input = ((*const u8, usize), u64, (u32, f32), (*const u8, usize));
+/// File, clock, scheme and its parameter, body, and a plan: what a sweep is read from.
+type Input = (Vec<u8>, u64, (u32, f32), Vec<u8>, Option<Vec<u8>>);
 
-/// Where a picture goes, and its marks in the gap reading.
+/// Where a picture goes, its marks in the gap reading, and the totals of a plan.
 struct Places<'a> {
     azimuths: &'a mut [f64],
     codes: &'a mut [u16],
     physical: &'a mut [f32],
     marks: Option<&'a mut [u8]>,
+    totals: Option<&'a mut [u64]>,
 }
 
-/// An entry that reads a sweep, with or without marks.
+/// An entry that reads a sweep, with or without a plan and one more buffer.
 macro_rules! sweep_entry {
-    ($name:ident($($marks:ident, $marks_len:ident)?)) => {
+    ($name:ident($($plan:ident, $plan_len:ident)?; $($lent:ident: $type:ty, $lent_len:ident)?)) => {
         unsafe extern "C" fn $name(
             file: *const u8,
             file_len: usize,
@@ -227,47 +272,58 @@ macro_rules! sweep_entry {
             parameter: f32,
             body: *const u8,
             body_len: usize,
+            $($plan: *const u8, $plan_len: usize,)?
             azimuths: *mut f64,
             azimuths_len: usize,
             codes: *mut u16,
             codes_len: usize,
             physical: *mut f32,
             physical_len: usize,
-            $($marks: *mut u8, $marks_len: usize,)?
+            $($lent: *mut $type, $lent_len: usize,)?
             ints: *mut i64,
             ints_len: usize,
             floats: *mut f64,
             floats_len: usize,
         ) -> u32 {
-            let places = Places {
+            #[allow(unused_mut)]
+            let mut places = Places {
                 azimuths: from_raw_parts_mut(azimuths, azimuths_len),
                 codes: from_raw_parts_mut(codes, codes_len),
                 physical: from_raw_parts_mut(physical, physical_len),
-                marks: [$(from_raw_parts_mut($marks, $marks_len))?].into_iter().next(),
+                marks: None,
+                totals: None,
             };
-            let input = ((file, file_len), clock, (scheme, parameter), (body, body_len));
+            $(places.$lent = Some(from_raw_parts_mut($lent, $lent_len));)?
+            let plan = [$(bytes($plan, $plan_len))?].into_iter().next();
+            let input = (bytes(file, file_len), clock, (scheme, parameter), bytes(body, body_len), plan);
             reading(input, places, report(ints, ints_len, floats, floats_len))
         }
     };
 }
 
-sweep_entry!(sweep());
-sweep_entry!(gaps(marks, marks_len));
+sweep_entry!(sweep(;));
+sweep_entry!(gaps(; marks: u8, marks_len));
+sweep_entry!(totals(plan, plan_len; totals: u64, totals_len));
 
-unsafe fn reading(input: Input, mut places: Places, report: Option<Report>) -> u32 {
+fn reading((file, clock, (scheme, parameter), body, plan): Input, mut places: Places, report: Option<Report>) -> u32 {
     let Some(mut report) = report else { return SHORT_REPORT };
-    let ((file, file_len), clock, (scheme, parameter), (body, body_len)) = input;
     let Some(scheme) = Scheme::of(scheme as usize, parameter) else { return BAD_ARGUMENT };
     let lent = Lent { azimuths: places.azimuths.len(), codes: places.codes.len(), physical: places.physical.len() };
-    let (file, body) = (bytes(file, file_len), bytes(body, body_len));
     let place = model::token_place(&file);
     let case = Case::Sweep { clock: clock.into(), scheme, lent, file, body };
-    let case = match &places.marks {
-        None => case,
-        Some(marks) => case.with_marks(marks.len()),
+    let given = match (plan, &places.marks, &places.totals) {
+        (Some(plan), _, Some(totals)) => plans::read(&case.with_plan(totals.len(), plan)),
+        (_, Some(marks), _) => {
+            let case = case.with_marks(marks.len());
+            slipped(&case, answer(&case))
+        }
+        _ => slipped(&case, answer(&case)),
     };
-    match slipped(&case, answer(&case)) {
+    match given {
         Answer::Refused(r) => {
+            if let (true, Some([first, ..])) = (slips(RefusalWritesTotals), &mut places.totals) {
+                *first = 0;
+            }
             if slips(RefusalWrites) && matches!(r.number, 22 | 34) && !places.codes.is_empty() {
                 places.codes[0] = 1;
             }
@@ -286,6 +342,16 @@ unsafe fn reading(input: Input, mut places: Places, report: Option<Report>) -> u
             }
             0
         }
+        Answer::Totals(s, totals) => {
+            accept(&s, place, &mut places, &mut report);
+            report.ints[14] = totals.len() as i64;
+            let lent = places.totals.unwrap();
+            lent[..totals.len()].copy_from_slice(&totals);
+            if slips(OneTotalMore) && lent.len() > totals.len() {
+                lent[totals.len()] = 0;
+            }
+            0
+        }
         _ => unreachable!(),
     }
 }
@@ -299,6 +365,9 @@ fn accept(s: &Sweep, place: Option<usize>, places: &mut Places, report: &mut Rep
     if let Some(scale) = s.scale {
         report.ints[11..13].copy_from_slice(&[scale.levels.into(), scale.floor.into()]);
         report.floats[6..8].copy_from_slice(&[scale.minimum.into(), scale.step.into()]);
+    }
+    if places.totals.is_some() && slips(PlanWritesNoPicture) {
+        return;
     }
     write(&s.picture, places.azimuths, places.codes);
     if !slips(NothingWritten) {

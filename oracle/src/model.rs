@@ -1,8 +1,11 @@
 //! Document 01's sentences once more, worked out here without the Rust and without the port: where the token, the message
 //! header and the fields stand, what a code's physical value is, where a body's radials stand, which of its bytes are data or
-//! unread, and what row a radial's data make or that they make none; and of document 02 the centres, the gaps and the dates.
+//! unread, and what row a radial's data make or that they make none; and of document 02 the centres, the gaps, the dates
+//! and, in plans.rs, the field plans.
 use lines::{Date, Packet, Refusal, Scheme, Sweep};
 use std::ops::Range;
+
+pub mod plans;
 
 /// The codes of the products.
 pub const CODES: [u16; 26] =
@@ -60,10 +63,7 @@ pub fn physical_values(file: &[u8], block: usize, scheme: Scheme) -> Box<dyn Fn(
         Scheme::Precip(factor) => {
             let (scale, offset) = (f32_of(at(22)), f32_of(at(24)));
             let (step, zero_point) = (factor / scale, (-offset * factor) / scale);
-            let (largest, leading, trailing) = (i16_of(27) as u16 as i32, i16_of(28), i16_of(29));
-            let plain = (0..=8).contains(&leading) && (0..=8).contains(&trailing) && largest != 0;
-            let (floor, ceiling) =
-                if plain { (leading as u16, Some((largest - trailing as i32).max(0) as u16)) } else { (1, None) };
+            let (floor, ceiling) = valid_codes(file, block);
             let minimum = floor as f32 * step + zero_point;
             Box::new(move |code| linear(code, floor, ceiling, minimum, step))
         }
@@ -72,6 +72,17 @@ pub fn physical_values(file: &[u8], block: usize, scheme: Scheme) -> Box<dyn Fn(
             Box::new(move |code| level(pairs[2 * code as usize], pairs[2 * code as usize + 1], post_scale))
         }
         Scheme::Class => Box::new(|code| if code == 0 { f32::NAN } else { code as f32 }),
+    }
+}
+
+/// The floor and the ceiling, if there is one, of the precipitation family.
+pub fn valid_codes(file: &[u8], block: usize) -> (u16, Option<u16>) {
+    let field = |index: usize| u16_at(file, block + 2 * (index - 1)) as u16;
+    let (largest, leading, trailing) = (i32::from(field(27)), field(28) as i16, field(29) as i16);
+    if (0..=8).contains(&leading) && (0..=8).contains(&trailing) && largest != 0 {
+        (leading as u16, Some((largest - i32::from(trailing)).max(0) as u16))
+    } else {
+        (1, None)
     }
 }
 

@@ -11,9 +11,10 @@
 //! | l3_scan_time | 0 time | |
 //! | l3_date | 0 year, 1 month, 2 day | |
 //! | l3_field | 0 value | 0, 1 the pair |
-//! | l3_pdb, l3_sweep, l3_gaps | 0 token's place (0 in l3_pdb), 1 product code, 2 vcp, 3 days, 4 seconds, 5 time (0 in l3_pdb) | 0-3 latitude, longitude, height, elevation |
-//! | l3_symbology, l3_sweep, l3_gaps | 6 packet (16, 44831 for AF1F, 28), 7 radials, 8 bins, 9 range scale or 0 | 4, 5 gate width, first gate or 0 |
-//! | l3_sweep, l3_gaps | 10 whether a scale is declared, 11 level count, 12 floor | 6, 7 minimum, step |
+//! | l3_pdb, l3_sweep, l3_gaps, l3_totals | 0 token's place (0 in l3_pdb), 1 product code, 2 vcp, 3 days, 4 seconds, 5 time (0 in l3_pdb) | 0-3 latitude, longitude, height, elevation |
+//! | l3_symbology, l3_sweep, l3_gaps, l3_totals | 6 packet (16, 44831 for AF1F, 28), 7 radials, 8 bins, 9 range scale or 0 | 4, 5 gate width, first gate or 0 |
+//! | l3_sweep, l3_gaps, l3_totals | 10 whether a scale is declared, 11 level count, 12 floor | 6, 7 minimum, step |
+//! | l3_totals | 14 the number of fields | |
 //! | l3_linear, l3_float | 11 level count | 6, 7 minimum, step |
 //! | l3_precip | 12 floor, 13 ceiling or -1 | 6, 7 minimum, step |
 //! | l3_xdr, l3_items | 0 value, or 0 start and 1 length; 15 the position after the read, also on a refusal (item 7: 0 the bytes left, no position) | 0 value |
@@ -57,6 +58,12 @@ entries! {
         file: *const u8, file_len: usize, clock: u64, scheme: u32, parameter: f32, body: *const u8, body_len: usize,
         azimuths: *mut f64, azimuths_len: usize, codes: *mut u16, codes_len: usize, physical: *mut f32, physical_len: usize,
         marks: *mut u8, marks_len: usize, ints: *mut i64, ints_len: usize, floats: *mut f64, floats_len: usize,
+    );
+    totals: l3_totals(
+        file: *const u8, file_len: usize, clock: u64, scheme: u32, parameter: f32, body: *const u8, body_len: usize,
+        plan: *const u8, plan_len: usize,
+        azimuths: *mut f64, azimuths_len: usize, codes: *mut u16, codes_len: usize, physical: *mut f32, physical_len: usize,
+        totals: *mut u64, totals_len: usize, ints: *mut i64, ints_len: usize, floats: *mut f64, floats_len: usize,
     );
     symbology: l3_symbology(
         body: *const u8, body_len: usize, azimuths: *mut f64, azimuths_len: usize, codes: *mut u16, codes_len: usize,
@@ -134,6 +141,17 @@ pub const READS: [FieldKind; 3] = [FieldKind::U16, FieldKind::I16, FieldKind::I3
 /// Places past the end of what is lent, which nothing may write to.
 const GUARD: usize = 8;
 
+/// What goes in with a sweep's input: nothing more, as many marks, or a plan and as many totals.
+#[derive(Clone, Copy)]
+enum Beside<'a> {
+    Nothing,
+    Marks(usize),
+    Plan(&'a [u8], usize),
+}
+
+/// As many totals as there are field numbers.
+const MOST_TOTALS: usize = 65_536;
+
 /// The number of a clock that no u64 holds: it is out of range either way.
 fn u64_clock(clock: i128) -> u64 {
     u64::try_from(clock).unwrap_or(u64::MAX)
@@ -190,10 +208,12 @@ pub struct Port {
     entries: Entries,
     file: Fence,
     body: Fence,
+    plan: Fence,
     azimuths: Buffer<u64>,
     codes: Buffer<u16>,
     physical: Buffer<u32>,
     marks: Buffer<u8>,
+    totals: Buffer<u64>,
     ints: [i64; INTS + GUARD],
     floats: [f64; FLOATS + GUARD],
     fault: Option<String>,
@@ -206,10 +226,12 @@ impl Port {
             entries,
             file: Fence::default(),
             body: Fence::default(),
+            plan: Fence::default(),
             azimuths: Buffer::new(),
             codes: Buffer::new(),
             physical: Buffer::new(),
             marks: Buffer::new(),
+            totals: Buffer::new(),
             ints: [0; INTS + GUARD],
             floats: [0.0; FLOATS + GUARD],
             fault: None,
@@ -221,9 +243,14 @@ impl Port {
     pub fn run(&mut self, case: &Case, lent: Lent) -> Outcome {
         (self.fault, self.place) = (None, None);
         let answer = match case {
-            Case::Sweep { clock, scheme, lent, file, body } => self.sweep(*clock, *scheme, (*lent, None), file, body),
+            Case::Sweep { clock, scheme, lent, file, body } => {
+                self.sweep(*clock, *scheme, (*lent, Beside::Nothing), file, body)
+            }
             Case::Gaps { clock, scheme, lent, marks, file, body } => {
-                self.sweep(*clock, *scheme, (*lent, Some(*marks)), file, body)
+                self.sweep(*clock, *scheme, (*lent, Beside::Marks(*marks)), file, body)
+            }
+            Case::Plan { clock, scheme, lent, totals, file, body, plan } => {
+                self.sweep(*clock, *scheme, (*lent, Beside::Plan(plan, *totals)), file, body)
             }
             Case::Sym { body } => self.symbology(body, lent),
             Case::Token { file } => self.token(file),
@@ -329,7 +356,7 @@ impl Port {
         let refused = self.call_physical(file, block, scheme, codes, (INTS, FLOATS));
         self.check_report();
         let written = if refused == 0 { codes.len().min(lent) } else { 0 };
-        self.check_kept([0, 0, written, 0]);
+        self.check_kept([0, 0, written, 0, 0]);
         if refused != 0 {
             return Err(self.refusal(refused));
         }
@@ -366,8 +393,8 @@ impl Port {
         asked.push(("l3_token with more than 16 ints and 8 floats".into(), number == 0 && self.ints[0] == 0));
         for scheme in [5, 6, 255, u32::MAX] {
             self.lend(Lent { azimuths: 4, codes: 4, physical: 4 });
-            for (name, gaps) in [("l3_sweep", false), ("l3_gaps", true)] {
-                let number = self.call_sweep(gaps, &[], (0, scheme, 0.0), &[], (INTS, FLOATS));
+            for (name, beside) in SWEEPS {
+                let number = self.call_sweep(beside, &[], (0, scheme, 0.0), &[], (INTS, FLOATS));
                 asked.push((format!("{name} with scheme {scheme}"), number == BAD_ARGUMENT && self.buffers_untouched()));
             }
             let number = self.call_physical(&[], 0, (scheme, 0.0), &[1, 2], (INTS, FLOATS));
@@ -404,16 +431,14 @@ impl Port {
     fn short_reports(&mut self, ints: usize, floats: usize) -> Vec<(&'static str, u32)> {
         let e = self.entries;
         self.lend(Lent { azimuths: 4, codes: 4, physical: 4 });
-        let [sweep, gaps] = [false, true].map(|gaps| self.call_sweep(gaps, &[], (0, 4, 0.0), &[], (ints, floats)));
+        let sweeps = SWEEPS.map(|(name, beside)| (name, self.call_sweep(beside, &[], (0, 4, 0.0), &[], (ints, floats))));
         let symbology = self.call_symbology(&[], (ints, floats));
         let physical = self.call_physical(&[], 0, (4, 0.0), &[1, 2], (ints, floats));
         let (i, f) = (self.ints.as_mut_ptr(), self.floats.as_mut_ptr());
         let bytes = self.file.place(b"N0BLOT");
         let mut data = [0u8; 32];
-        unsafe {
-            vec![
-                ("l3_sweep", sweep),
-                ("l3_gaps", gaps),
+        let others = unsafe {
+            [
                 ("l3_symbology", symbology),
                 ("l3_physical", physical),
                 ("l3_token", (e.token)(bytes, 6, i, ints, f, floats)),
@@ -431,19 +456,28 @@ impl Port {
                 ("l3_items", (e.items)(0, bytes, 6, i, ints, f, floats)),
                 ("l3_read", (e.read)(0, bytes, 6, 0, i, ints, f, floats)),
             ]
-        }
+        };
+        [&sweeps[..], &others].concat()
     }
 
-    /// The sweep reading, or the gap reading where marks are lent.
-    fn sweep(&mut self, clock: i128, scheme: Scheme, lent: (Lent, Option<usize>), file: &[u8], body: &[u8]) -> Answer {
-        let (lent, marks) = lent;
+    /// The sweep reading, with marks the gap reading, with a plan that of its totals.
+    fn sweep(&mut self, clock: i128, scheme: Scheme, lent: (Lent, Beside), file: &[u8], body: &[u8]) -> Answer {
+        let (lent, beside) = lent;
         self.lend(lent);
-        self.marks.lend(marks.unwrap_or(0).min(Lent::MOST.azimuths), pattern8);
+        match beside {
+            Beside::Nothing => {}
+            Beside::Marks(marks) => {
+                self.marks.lend(marks.min(Lent::MOST.azimuths), pattern8);
+            }
+            Beside::Plan(_, totals) => {
+                self.totals.lend(totals.min(MOST_TOTALS), pattern64);
+            }
+        }
         let by = (u64_clock(clock), scheme.index() as u32, scheme.parameter());
-        let refused = self.call_sweep(marks.is_some(), file, by, body, (INTS, FLOATS));
+        let refused = self.call_sweep(beside, file, by, body, (INTS, FLOATS));
         self.check_report();
         if refused != 0 {
-            self.check_kept([0; 4]);
+            self.check_kept([0; 5]);
             return Answer::Refused(self.refusal(refused));
         }
         let Some(picture) = self.picture() else { return Answer::Accepted };
@@ -452,12 +486,14 @@ impl Port {
             self.found(format!("accepted {cells} cells with {} places lent for physical values", self.physical.lent));
             return Answer::Accepted;
         }
-        let marked = if marks.is_some() { picture.radials } else { 0 };
-        if marked > self.marks.lent {
-            self.found(format!("accepted {marked} radials with {} marks lent", self.marks.lent));
+        let marked = if matches!(beside, Beside::Marks(_)) { picture.radials } else { 0 };
+        let totalled = if matches!(beside, Beside::Plan(..)) { self.whole(14) } else { 0 };
+        let lent = [self.marks.lent, self.totals.lent];
+        if marked > lent[0] || totalled > lent[1] {
+            self.found(format!("accepted {marked} marks and {totalled} totals with {lent:?} places lent"));
             return Answer::Accepted;
         }
-        self.check_kept([picture.radials, cells, cells, marked]);
+        self.check_kept([picture.radials, cells, cells, marked, totalled]);
         let physical = self.physical.memory[..cells].iter().map(|b| f32::from_bits(*b)).collect();
         let scale = match self.ints[10] {
             0 => None,
@@ -471,9 +507,10 @@ impl Port {
         };
         let (token, fields, time) = (self.token_at(file), self.fields(), self.ints[5]);
         let sweep = Box::new(Sweep { token, fields, time, scale, picture, physical });
-        match marks {
-            None => Answer::Sweep(sweep),
-            Some(_) => Answer::Gaps(sweep, self.marks.memory[..marked].to_vec()),
+        match beside {
+            Beside::Nothing => Answer::Sweep(sweep),
+            Beside::Marks(_) => Answer::Gaps(sweep, self.marks.memory[..marked].to_vec()),
+            Beside::Plan(..) => Answer::Totals(sweep, self.totals.memory[..totalled].to_vec()),
         }
     }
 
@@ -482,11 +519,11 @@ impl Port {
         let refused = self.call_symbology(body, (INTS, FLOATS));
         self.check_report();
         if refused != 0 {
-            self.check_kept([0; 4]);
+            self.check_kept([0; 5]);
             return Answer::Refused(self.refusal(refused));
         }
         let Some(picture) = self.picture() else { return Answer::Accepted };
-        self.check_kept([picture.radials, picture.radials * picture.bins, 0, 0]);
+        self.check_kept([picture.radials, picture.radials * picture.bins, 0, 0, 0]);
         Answer::Picture(Box::new(picture))
     }
 
@@ -671,11 +708,11 @@ impl Port {
         accepted(self)
     }
 
-    /// The sweep reading or the gap reading, by a clock, a scheme and its parameter.
-    fn call_sweep(&mut self, gaps: bool, file: &[u8], by: (u64, u32, f32), body: &[u8], report: (usize, usize)) -> u32 {
+    /// A reading of a sweep by a clock, a scheme and its parameter.
+    fn call_sweep(&mut self, beside: Beside, file: &[u8], by: (u64, u32, f32), body: &[u8], report: (usize, usize)) -> u32 {
         let (file_at, body_at) = (self.file.place(file), self.body.place(body));
         macro_rules! call {
-            ($entry:ident $(, $marks:expr)*) => {
+            ($entry:ident($($plan:expr),*; $($lent:ident)?)) => {
                 (self.entries.$entry)(
                     file_at,
                     file.len(),
@@ -684,13 +721,14 @@ impl Port {
                     by.2,
                     body_at,
                     body.len(),
+                    $($plan,)*
                     self.azimuths.memory.as_mut_ptr() as *mut f64,
                     self.azimuths.lent,
                     self.codes.memory.as_mut_ptr(),
                     self.codes.lent,
                     self.physical.memory.as_mut_ptr() as *mut f32,
                     self.physical.lent,
-                    $($marks,)*
+                    $(self.$lent.memory.as_mut_ptr(), self.$lent.lent,)?
                     self.ints.as_mut_ptr(),
                     report.0,
                     self.floats.as_mut_ptr(),
@@ -699,10 +737,13 @@ impl Port {
             };
         }
         unsafe {
-            if gaps {
-                call!(gaps, self.marks.memory.as_mut_ptr(), self.marks.lent)
-            } else {
-                call!(sweep)
+            match beside {
+                Beside::Nothing => call!(sweep(;)),
+                Beside::Marks(_) => call!(gaps(; marks)),
+                Beside::Plan(plan, _) => {
+                    let plan_at = self.plan.place(plan);
+                    call!(totals(plan_at, plan.len(); totals))
+                }
             }
         }
     }
@@ -762,6 +803,7 @@ impl Port {
         self.codes.lend(lent.codes, pattern16);
         self.physical.lend(lent.physical, pattern32);
         self.marks.lend(0, pattern8);
+        self.totals.lend(0, pattern64);
         self.prepare();
     }
 
@@ -785,21 +827,22 @@ impl Port {
     }
 
     fn buffers_untouched(&self) -> bool {
-        self.touched([0; 4]).iter().all(Option::is_none)
+        self.touched([0; 5]).iter().all(Option::is_none)
     }
 
     /// The first place of each buffer from the given one on that does not hold what it held before.
-    fn touched(&self, [azimuths, codes, physical, marks]: [usize; 4]) -> [Option<usize>; 4] {
+    fn touched(&self, [azimuths, codes, physical, marks, totals]: [usize; 5]) -> [Option<usize>; 5] {
         [
             self.azimuths.touched(azimuths),
             self.codes.touched(codes),
             self.physical.touched(physical),
             self.marks.touched(marks),
+            self.totals.touched(totals),
         ]
     }
 
     /// The places from the given ones on must hold what they held before.
-    fn check_kept(&mut self, from: [usize; 4]) {
+    fn check_kept(&mut self, from: [usize; 5]) {
         for (name, at) in BUFFERS.into_iter().zip(self.touched(from)) {
             if let Some(at) = at {
                 self.found(format!("place {at} of {name}, which must be kept, was written"));
@@ -938,6 +981,7 @@ pub struct Timed<'a> {
     codes: Vec<u16>,
     physical: Vec<f32>,
     marks: Vec<u8>,
+    totals: Vec<u64>,
     ints: [i64; INTS],
     floats: [f64; FLOATS],
 }
@@ -954,6 +998,7 @@ impl<'a> Timed<'a> {
             codes: vec![0; lent.codes],
             physical: vec![0.0; lent.physical],
             marks: vec![0; lent.azimuths],
+            totals: vec![0; MOST_TOTALS],
             ints: [0; INTS],
             floats: [0.0; FLOATS],
         }
@@ -1009,6 +1054,34 @@ impl<'a> Timed<'a> {
         }
     }
 
+    pub fn totals(&mut self, plan: &[u8]) -> u32 {
+        unsafe {
+            (self.entries.totals)(
+                self.file.as_ptr(),
+                self.file.len(),
+                self.clock,
+                self.scheme.index() as u32,
+                self.scheme.parameter(),
+                self.body.as_ptr(),
+                self.body.len(),
+                plan.as_ptr(),
+                plan.len(),
+                self.azimuths.as_mut_ptr(),
+                self.azimuths.len(),
+                self.codes.as_mut_ptr(),
+                self.codes.len(),
+                self.physical.as_mut_ptr(),
+                self.physical.len(),
+                self.totals.as_mut_ptr(),
+                self.totals.len(),
+                self.ints.as_mut_ptr(),
+                INTS,
+                self.floats.as_mut_ptr(),
+                FLOATS,
+            )
+        }
+    }
+
     pub fn symbology(&mut self) -> u32 {
         unsafe {
             (self.entries.symbology)(
@@ -1026,6 +1099,10 @@ impl<'a> Timed<'a> {
         }
     }
 }
+
+/// The readings of a sweep, with a plan or marks that stand for any.
+const SWEEPS: [(&str, Beside); 3] =
+    [("l3_sweep", Beside::Nothing), ("l3_gaps", Beside::Marks(0)), ("l3_totals", Beside::Plan(&[], 0))];
 
 const KEPT_INTS: [i64; INTS + GUARD] = [-0x5a5a_5a5a_5a5a_5a5b; INTS + GUARD];
 const KEPT_FLOATS: [f64; FLOATS + GUARD] = [-6.25e77; FLOATS + GUARD];

@@ -1,6 +1,7 @@
 //! A list of a few hundred small cases, for a stored list: the edges by hand, and samples of every refusal and of every packet
 //! under every scheme.
 use crate::compare::Counts;
+use crate::make::plans::{self, Record, Record::*};
 use crate::make::{cases, Rng};
 use crate::wanted;
 use lines::{Case, FieldKind, Lent, Packet, Scheme};
@@ -8,6 +9,7 @@ use std::collections::HashMap;
 
 const CLOCK: i128 = 1_800_000_000;
 const ONE: f32 = 1.0;
+const PRECIP: Scheme = Scheme::Precip(0.254);
 
 /// A file of a small product: `N0BLOT`, the header, and the block up to `len` bytes.
 fn file(len: usize, changes: &[(usize, &[u8])]) -> Vec<u8> {
@@ -172,6 +174,12 @@ impl List {
     fn gaps(&mut self, name: &str, scheme: Scheme, file: Vec<u8>, body: Vec<u8>) {
         let lent = Lent { azimuths: 10, codes: 64, physical: 64 };
         self.add(&format!("gaps_{name}"), Case::Gaps { clock: CLOCK, scheme, lent, marks: 10, file, body });
+    }
+
+    fn plan(&mut self, name: &str, scheme: Scheme, file: Vec<u8>, body: Vec<u8>, plan: Vec<u8>) {
+        let lent = Lent { azimuths: 10, codes: 64, physical: 64 };
+        let sweep = Case::Sweep { clock: CLOCK, scheme, lent, file, body };
+        self.add(&format!("plan_{name}"), sweep.with_plan(10, plan));
     }
 
     fn class(&mut self, name: &str, body: Vec<u8>) {
@@ -510,6 +518,91 @@ pub fn dates() -> Vec<(String, Case)> {
     days.map(|days| (format!("date_{days}"), Case::Date { days })).to_vec()
 }
 
+/// M-104: totals of all three packets, each refusal and each bound, and the order of the refusals.
+pub fn plans() -> Vec<(String, Case)> {
+    let mut list = List(vec![]);
+    let file = || precip(10.0, 1.0, [250, 2, 1]);
+    let bytes = || p16(4, &[(4, 0, 10, &[1, 2, 3, 249]), (5, 10, 10, &[250, 255, 0, 100, 9])]);
+    let runs = || af1f(4, &[(2, 0, 10, &[0x13, 0x27, 0x01, 0x1f]), (1, 10, 10, &[0x31, 0x12])]);
+    let levels = || p28(&[Ray(0.0, 1.0, 4, &[1, 2, 3, 249]), Ray(10.0, 1.0, 4, &[250, 65_535, 0, 100])]);
+    let strip = |radial, first, count, weight| Strip([radial, first, count, weight]);
+    let two = || vec![Field(9), strip(0, 0, 4, 10), strip(1, 3, 1, 7), Field(3), strip(0, 1, 2, 65_535), strip(0, 2, 1, 1)];
+    let most = || precip(1000.0, 2.5, [65_535, 0, 0]);
+    for (name, file, body, plan) in [
+        ("16", file(), bytes(), two()),
+        ("af1f", file(), runs(), two()),
+        ("28", file(), levels(), two()),
+        ("empty", file(), bytes(), vec![]),
+        ("field_alone", file(), bytes(), vec![Field(65_535), Field(0)]),
+        ("cut_in_two", file(), bytes(), [&two()[..1], &[strip(0, 3, 1, 10), strip(0, 0, 3, 10)], &two()[2..]].concat()),
+        ("moved", file(), bytes(), [&two()[..1], &[strip(1, 3, 1, 7), strip(0, 0, 4, 10)], &two()[3..]].concat()),
+        ("code_moved", file(), p16(4, &[(4, 0, 10, &[1, 2, 13, 249]), (4, 10, 10, &[250, 255, 0, 100])]), two()),
+        ("no_ceiling", precip(10.0, 1.0, [0, 2, 1]), levels(), two()),
+        ("ceiling_low", precip(10.0, 1.0, [5, 8, 8]), levels(), two()),
+        ("ceiling_alone", precip(10.0, 1.0, [4, 3, 1]), levels(), vec![Field(1), strip(0, 0, 4, 5)]),
+        ("most", most(), levels(), vec![Field(1), strip(1, 1, 1, 65_535), strip(1, 1, 1, 65_535), strip(1, 0, 4, 0)]),
+    ] {
+        list.plan(name, PRECIP, file, body, plans::bytes(&plan));
+    }
+    // refused by the plan alone
+    let head = |then: &[Record]| plans::bytes(&[&two()[..], then].concat());
+    let raw = |bytes: &[u8]| Raw(bytes.to_vec());
+    for (name, plan) in [
+        ("cut_tag", head(&[raw(&[1])])),
+        ("cut_length", head(&[raw(&[2, 0])])),
+        ("cut_field", head(&[raw(&[1, 0, 2, 0])])),
+        ("cut_strip", head(&[raw(&[2, 0, 8, 0, 0, 0, 0, 0, 1, 0])])),
+        ("tag_0", head(&[raw(&[0, 0, 0])])),
+        ("tag_3", head(&[raw(&[3, 0, 2, 0, 1])])),
+        ("field_length", head(&[raw(&[1, 0, 3, 0, 4, 0])])),
+        ("strip_length", head(&[raw(&[2, 0, 6, 0, 0, 0, 0, 0, 1])])),
+        ("length_turned", head(&[raw(&[1, 2, 0, 0, 4])])),
+        ("strip_first", plans::bytes(&[strip(0, 0, 1, 1), Field(1)])),
+        ("no_gates", head(&[strip(0, 0, 0, 1)])),
+        ("repeated", head(&[Field(4), Field(9), Field(9)])),
+        ("radial_outside", head(&[strip(2, 0, 1, 1), strip(3, 0, 1, 1)])),
+        ("gate_outside", head(&[strip(0, 4, 1, 1)])),
+        ("count_outside", head(&[strip(1, 1, 4, 1)])),
+        ("sum_past_16_bits", head(&[strip(0, 65_535, 2, 1)])),
+        ("repeated_then_cut", head(&[Field(3), raw(&[1, 0])])),
+        ("repeated_then_no_gates", head(&[Field(3), strip(0, 0, 0, 1)])),
+        ("outside_then_repeated", head(&[strip(9, 0, 1, 1), Field(3)])),
+        ("outside_then_tag_3", head(&[strip(9, 0, 1, 1), Field(3), raw(&[3, 0, 0])])),
+        ("outside_and_no_gates", head(&[strip(9, 9, 0, 1)])),
+    ] {
+        list.plan(name, PRECIP, file(), bytes(), plan);
+    }
+    // 10 for every other scheme, where 10 stands
+    let good = || plans::bytes(&two());
+    for (name, scheme, file, body, plan) in [
+        ("halfword", Scheme::Halfword, halfword(-320, 5, 254), bytes(), good()),
+        ("halfword_step_0", Scheme::Halfword, halfword(-320, 0, 254), bytes(), good()),
+        ("float_scale_0", Scheme::Float, float(0.0, 0.0), bytes(), good()),
+        ("legacy", Scheme::Legacy(1.0), legacy(), runs(), good()),
+        ("class", Scheme::Class, class(), levels(), head(&[raw(&[3])])),
+        ("class_no_row", Scheme::Class, class(), af1f(5, &[(1, 0, 10, &[0x31, 0x35])]), good()),
+        ("precip_no_row", PRECIP, precip(10.0, 1.0, [250, 2, 1]), af1f(5, &[(1, 0, 10, &[0x31, 0x35])]), vec![9]),
+        ("scale_0", PRECIP, precip(0.0, 1.0, [250, 2, 1]), bytes(), vec![9]),
+    ] {
+        list.plan(name, scheme, file, body, plan);
+    }
+    for (name, scheme, file, azimuths, codes, physical, totals, plan) in [
+        ("lent_exactly", PRECIP, file(), 2, 8, 8, 2, good()),
+        ("lent_totals", PRECIP, file(), 2, 8, 8, 1, good()),
+        ("lent_no_totals", PRECIP, file(), 2, 8, 8, 0, vec![]),
+        ("lent_physical", PRECIP, file(), 2, 8, 7, 0, vec![3]),
+        ("lent_totals_cut", PRECIP, file(), 2, 8, 8, 0, head(&[raw(&[1])])),
+        ("lent_totals_repeated", PRECIP, file(), 2, 8, 8, 0, head(&[Field(9)])),
+        ("lent_totals_outside", PRECIP, file(), 2, 8, 8, 0, head(&[strip(2, 0, 1, 1)])),
+        ("lent_nothing_class", Scheme::Class, class(), 0, 0, 0, 0, good()),
+    ] {
+        let lent = Lent { azimuths, codes, physical };
+        let sweep = Case::Sweep { clock: CLOCK, scheme, lent, file, body: bytes() };
+        list.add(&format!("plan_{name}"), sweep.with_plan(totals, plan));
+    }
+    list.0
+}
+
 /// Rows of 130 cells, so two blocks of 64 and a rest, of every packet under every scheme that it allows.
 fn blocks(list: &mut List) {
     let bytes: Vec<u8> = (0..261).map(|i| (i * 7 % 256) as u8).collect();
@@ -646,10 +739,11 @@ pub fn list() -> Vec<(String, Case)> {
     }
     list.extend(gaps());
     list.extend(dates());
+    list.extend(plans());
     list
 }
 
-/// What the list lacks, of the refusals 1 to 36 and the packets under the schemes.
+/// What the list lacks, of the refusals and the packets under the schemes.
 pub fn missing(list: &[(String, Case)]) -> Vec<String> {
     let mut counts = Counts::default();
     for (_, case) in list {

@@ -1,11 +1,12 @@
 //! The answer that the port is held to: the Rust's, with what document 02 alters put into it by the model, and the model's to what
 //! the Rust has no function for.
 use crate::model;
-use lines::{Answer, Case, Packet, Refusal};
+use lines::{Answer, Case, Packet, Refusal, Scheme};
 
 pub fn answer(case: &Case) -> Answer {
     match case {
         Case::Gaps { marks, .. } => gaps(case.clone().ordinary(), *marks),
+        Case::Plan { totals, plan, .. } => planned(case.clone().ordinary(), *totals, plan),
         Case::Date { days } => model::date(*days).map_or_else(Answer::Refused, Answer::Date),
         _ => altered(case, radish::answer(case)),
     }
@@ -32,6 +33,24 @@ fn gaps(mut case: Case, marks: usize) -> Answer {
         made[radial] = 1;
     }
     Answer::Gaps(sweep, made)
+}
+
+/// M-104, from the ordinary reading: 10 for any scheme but precipitation where 10 stands, so before 9 and 36; and where a sweep is
+/// accepted, what its plan is refused for, or the totals.
+fn planned(case: Case, totals: usize, plan: &[u8]) -> Answer {
+    let given = answer(&case);
+    let Case::Sweep { scheme, file, .. } = case else { return given };
+    let after_10 = given.refusal().is_none_or(|r| matches!(r.number, 9 | 36));
+    if after_10 && !matches!(scheme, Scheme::Precip(_)) {
+        return Answer::Refused(Refusal::new(10, &[]));
+    }
+    let Answer::Sweep(sweep) = given else { return given };
+    let block = model::header_place(&file).expect("an accepted file has a header") + 18;
+    match model::plans::totals(plan, &sweep.picture, model::valid_codes(&file, block)) {
+        Err(refusal) => Answer::Refused(refusal),
+        Ok(made) if totals < made.len() => Answer::Refused(Refusal::new(36, &[4])),
+        Ok(made) => Answer::Totals(sweep, made),
+    }
 }
 
 /// M-100: the centres of packets 16 and AF1F are wrapped, which the Rust's are not.

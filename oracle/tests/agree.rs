@@ -19,6 +19,7 @@ fn the_rust_agrees_with_itself() {
     }
     assert_eq!(compare.counts.differences, 0);
     assert_eq!(compare.counts.missing(), Vec::<String>::new());
+    assert!(!compare.counts.plan_laws.contains(&0));
 }
 
 #[test]
@@ -28,6 +29,7 @@ fn a_case_survives_its_line() {
         for case in [
             cases::sweep(rng),
             cases::gaps(rng),
+            cases::plan(rng),
             cases::field(rng),
             cases::block(rng),
             cases::xdr(rng),
@@ -56,7 +58,7 @@ fn a_line_lends_no_more_than_a_sweep_has() {
         };
         let lent = Lent { azimuths: usize::MAX, codes: 1 << 40, physical: usize::MAX };
         let case = Case::Sweep { clock, scheme, lent, file, body };
-        for case in [case.clone(), case.with_marks(usize::MAX)] {
+        for case in [case.clone(), case.clone().with_marks(usize::MAX), case.with_plan(usize::MAX, vec![1, 0, 2, 0, 7])] {
             let outcome = port.run(&case, Lent::MOST);
             assert!(wanted::answer(&case).same(&outcome.answer) && outcome.fault.is_none());
         }

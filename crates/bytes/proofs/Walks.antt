@@ -9,6 +9,7 @@ use mathlib.Core.Path.{_≡_, refl, sym, ap, _∙_}
 use mathlib.Core.Bool.{Bool, true, false, cond, _&&_, _||_}
 use lib.ListN.{length, getD, take, drop, length-drop}
 use lib.Seq.{drop-cons, drop-length, drop-drop, take-all}
+use lib.Dec.{eqb}
 use borrow.Author.Tests.{eq-eqb, ne-eqb}
 use Rattle.bytes.specs.Text.{member, all, leading}
 
@@ -63,6 +64,15 @@ module _ (n : ℕ) {s : List ℕ} {i : ℕ} (w : Walk (seek n) s i) where
   pub seek-end : length s ≤ i → false ≡ member n s
   unfolding member
   seek-end h = walk-end w h
+
+-- `member`, element by element
+pub member-none : (n : ℕ) → member n [] ≡ false
+unfolding member
+member-none n = refl
+
+pub member-more : (n m : ℕ) (s : List ℕ) → member n (m ∷ s) ≡ (eqb n m || member n s)
+unfolding member
+member-more n m s = refl
 
 module _ (p : ℕ → Bool) {s : List ℕ} {i : ℕ} where
   pub each-next : Walk (each p) s i → i < length s → p (getD s i 0) ≡ true → Walk (each p) s (i + 1)

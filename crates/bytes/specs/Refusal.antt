@@ -6,7 +6,7 @@ use lib.Ieee.{Float}
 use Rattle.bytes.specs.declared.error.XdrItem.{XdrItem}
 use Rattle.bytes.specs.declared.error.Buffer.{Buffer}
 use Rattle.bytes.specs.declared.error.Level3DecodeError.{Level3DecodeError}
-use Rattle.bytes.specs.declared.error.Level3DecodeError.the-variants.{NoAwipsToken, NoMessageHeader, PdbFieldOutOfBounds, ImplausibleScanTime, ScanTimeTooFarAhead, ClockOutOfRange, NonFiniteScale, NonFiniteOffset, NonPositiveIncrement, SchemeMismatch, UnexpectedTrailingBytes, SymbologyTruncated, BadSymbologyHeader, UnsupportedPacketCode, EmptySweep, GridTooLarge, NonZeroFirstBin, AllocationExceedsBody, TruncatedAtRadial, ImplausibleRadialWidth, RadialByteCountMismatch, RleExpansionMismatch, XdrTruncated, XdrStringTooLong, XdrArrayTooLong, XdrListTooLong, UnsupportedXdrComponent, UnexpectedXdrComponentCount, NonPositiveXdrGeometry, ImplausibleXdrRadialCount, XdrRadialBinCountMismatch, XdrRadialDataLengthMismatch, XdrGridTooLarge, XdrRawLevelOutOfRange, XdrTrailingBytes, BufferTooShort}
+use Rattle.bytes.specs.declared.error.Level3DecodeError.the-variants.{NoAwipsToken, NoMessageHeader, PdbFieldOutOfBounds, ImplausibleScanTime, ScanTimeTooFarAhead, ClockOutOfRange, NonFiniteScale, NonFiniteOffset, NonPositiveIncrement, SchemeMismatch, UnexpectedTrailingBytes, SymbologyTruncated, BadSymbologyHeader, UnsupportedPacketCode, EmptySweep, GridTooLarge, NonZeroFirstBin, AllocationExceedsBody, TruncatedAtRadial, ImplausibleRadialWidth, RadialByteCountMismatch, RleExpansionMismatch, XdrTruncated, XdrStringTooLong, XdrArrayTooLong, XdrListTooLong, UnsupportedXdrComponent, UnexpectedXdrComponentCount, NonPositiveXdrGeometry, ImplausibleXdrRadialCount, XdrRadialBinCountMismatch, XdrRadialDataLengthMismatch, XdrGridTooLarge, XdrRawLevelOutOfRange, XdrTrailingBytes, BufferTooShort, PlanMalformed, FieldRepeated, StripOutside}
 
 -- a value that a refusal carries: a whole number, a float, the XDR item cut short, the buffer that is short
 pub data Value : Type 0 where
@@ -60,3 +60,6 @@ refusalOf (XdrGridTooLarge r b c m) = kind 33 (nat r ∷ nat b ∷ nat c ∷ nat
 refusalOf (XdrRawLevelOutOfRange r g v) = kind 34 (nat r ∷ nat g ∷ whole v ∷ [])
 refusalOf (XdrTrailingBytes n) = kind 35 (nat n ∷ [])
 refusalOf (BufferTooShort b) = kind 36 (buffer b ∷ [])
+refusalOf (PlanMalformed o) = kind 37 (nat o ∷ [])
+refusalOf (FieldRepeated o) = kind 38 (nat o ∷ [])
+refusalOf (StripOutside o) = kind 39 (nat o ∷ [])

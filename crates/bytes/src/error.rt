@@ -1,4 +1,4 @@
-// The kinds of refusal, in the order of their numbers, 1 to 36.
+// The kinds of refusal, in the order of their numbers, 1 to 39.
 // specs/Refusal.antt gives the number and the values of each.
 
 // The XDR item that was cut short.
@@ -18,6 +18,7 @@ pub enum Buffer {
     Codes,
     Physical,
     Marks,
+    Totals,
 }
 
 pub enum Level3DecodeError {
@@ -139,5 +140,14 @@ pub enum Level3DecodeError {
     },
     BufferTooShort {
         buffer: Buffer,
+    },
+    PlanMalformed {
+        offset: usize,
+    },
+    FieldRepeated {
+        offset: usize,
+    },
+    StripOutside {
+        offset: usize,
     },
 }

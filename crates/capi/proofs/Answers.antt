@@ -15,9 +15,12 @@ use Rattle.bytes.specs.Products.{codes}
 use Rattle.scale.specs.Pdb.{thresholdPlace, thresholdBytes}
 use Rattle.scale.specs.Legacy.{levelsOf}
 use Rattle.capi.specs.declared.report.Report.{Report}
-use Rattle.capi.specs.Report.{reportOf, endedReport, Said, said, failed, choice, short, numberOf, intsAfter, floatsAfter, over, Leaves}
+use Rattle.capi.specs.Report.{reportOf, endedReport, Said, said, failed, saying, choice, short, roomFirst, numberOf, intsAfter, floatsAfter, over, Leaves}
 use Rattle.capi.specs.Places.{noReport}
-use Rattle.capi.specs.Entries.{thresholdSaid, levelsSaid, codesSaid}
+use Rattle.scale.specs.declared.physical.Scheme.{Scheme}
+use Rattle.capi.specs.declared.sweeps.Asked.{Asked}
+use Rattle.capi.specs.declared.sweeps.Asked.the-variants as Asked
+use Rattle.capi.specs.Entries.{thresholdSaid, levelsSaid, codesSaid, schemeSaid, askedOf}
 
 -- an arm of a match on an answer: x turned out to be x'
 module _ {X A : Type 0} (f : A → Report) where
@@ -65,6 +68,35 @@ fails {n = n} {ints = ints} {floats = floats} e q =
       ints-left = same-ints (short (length ints) (length floats)) ints;
       floats-left = same-floats (short (length ints) (length floats)) floats;
     })
+
+-- ---- a scheme that is asked for
+
+-- what fails, fails whatever is to be said in its place
+fails-still : {A B : Type 0} (f : A → B) (b : Bool) (s : Said A) {n : ℕ} → cond b (failed 100) s ≡ failed n → cond b (failed 100) (saying f s) ≡ failed n
+fails-still f true s {n} q = let k : 100 ≡ n = cc in rw k
+fails-still f false s q = rw q
+
+-- what an entry leaves then
+pub failing : {A : Type 0} (f : A → Report) (s : Said A) {n : ℕ} {ints : List ℕ} {floats : List Float} → roomFirst ints floats s ≡ failed n
+    → Leaves (saying f s) n ints ints floats floats
+failing f s {n} {ints} {floats} e =
+    let q : roomFirst ints floats (saying f s) ≡ failed n = fails-still f (short (length ints) (length floats)) s e in
+    record { returned = rw q refl; ints-left = rw q refl; floats-left = rw q refl }
+
+module _ (ints : List ℕ) (floats : List Float) (number : ℕ) (x : Float) {a : Asked} (e : askedOf a ≡ roomFirst ints floats (schemeSaid number x))
+    {A : Type 0} (f : Scheme → A) where
+  -- an entry that says f of the scheme has none to go by
+  pub no-scheme : {n : ℕ} → a ≡ Asked.Failed n → roomFirst ints floats (saying f (schemeSaid number x)) ≡ failed n
+  no-scheme is = fails-still f (short (length ints) (length floats)) (schemeSaid number x) (sym e ∙ ap askedOf is)
+
+  -- or it has one
+  pub its-scheme : {s : Scheme} → a ≡ Asked.Known s
+      → (saying f (schemeSaid number x) ≡ said (f s)) × (roomFirst ints floats (saying f (schemeSaid number x)) ≡ said (f s))
+  its-scheme {s} is = by (short (length ints) (length floats)) (schemeSaid number x) (sym e ∙ ap askedOf is)
+    where
+      by : (b : Bool) (y : Said Scheme) → cond b (failed 100) y ≡ said s → (saying f y ≡ said (f s)) × (cond b (failed 100) (saying f y) ≡ said (f s))
+      by true y q = let z : _≡_ {A = ℕ} 0 1 = cc in absurd (omega arith)
+      by false y q = rw q (refl, refl)
 
 pub none-chosen : {A : Type 0} (xs : List A) (n : ℕ) → length xs ≤ n → choice n xs ≡ failed 101
 unfolding choice

@@ -19,6 +19,7 @@ use Rattle.scale.specs.declared.physical.Scheme.the-variants as Scheme
 use Rattle.symbology.specs.Answers.{Picture, figuresIn}
 use Rattle.sweep.specs.Sweep.{Accepted, sweepIn, Buffers, readInto}
 use Rattle.sweep.specs.GapSweep.{GapSweep, gapSweepIn, GapBuffers, gapsInto}
+use Rattle.fields.specs.Fields.{Totalled, totalsIn, TotalsBuffers, totalsInto}
 use Rattle.xdr.specs.Xdr as Xdr
 use Rattle.xdr.specs.Answers.{done, stringPart, arrayPart}
 use Rattle.xdr.specs.Each.{uintAt, floatAt, stringAt, arrayAt, headAt, listAt, endAt}
@@ -26,7 +27,7 @@ use Rattle.capi.specs.declared.report.Report.{Report}
 use Rattle.capi.specs.declared.sweeps.Asked.{Asked}
 use Rattle.capi.specs.declared.sweeps.Asked.the-variants as Asked
 use Rattle.capi.specs.Report.{reportOf, endedReport, Said, said, failed, saying, choice, roomFirst, Leaves, lentBy}
-use Rattle.capi.specs.Places.{noReport, numberReport, signedReport, floatReport, pairReport, partReport, u16Report, i16Report, i32Report, figuresReport, sweepReport}
+use Rattle.capi.specs.Places.{noReport, numberReport, signedReport, floatReport, pairReport, partReport, u16Report, i16Report, i32Report, figuresReport, sweepReport, totalsReport}
 
 -- a field, by its kind: i16, u16, i32, a pair of f32
 abbrev pub fieldSaid : List ℕ → ℕ → ℕ → ℕ → Said Report
@@ -96,6 +97,18 @@ pub record GapsLeave (s : GapBuffers → Said (Result GapSweep)) (number : ℕ) 
   pub physical : new .physical ≡ lentBy (roomFirst ints floats (s old)) (λ p. p .physical) (old .physical)
   pub marks : new .marks ≡ lentBy (roomFirst ints floats (s old)) (λ p. p .marks) (old .marks)
 
+-- the sweep with a plan, read into buffers that hold `old`
+abbrev pub totalsSaid : ℕ → Float → List ℕ → ℕ → List ℕ → List ℕ → TotalsBuffers → Said (Result Totalled)
+totalsSaid n x file clock body plan old = saying (λ scheme. totalsInto scheme file clock body plan old) (schemeSaid n x)
+
+-- The same of l3_totals, and of the fourth buffer, the totals.
+pub record TotalsLeave (s : TotalsBuffers → Said (Result Totalled)) (number : ℕ) (old new : TotalsBuffers) (ints ints' : List ℕ) (floats floats' : List Float) : Type 0 where
+  pub report : Leaves (saying (λ a. reportOf (totalsIn a) totalsReport) (s old)) number ints ints' floats floats'
+  pub azimuths : new .azimuths ≡ lentBy (roomFirst ints floats (s old)) (λ t. t .sweep .azimuths) (old .azimuths)
+  pub codes : new .codes ≡ lentBy (roomFirst ints floats (s old)) (λ t. t .sweep .codes) (old .codes)
+  pub physical : new .physical ≡ lentBy (roomFirst ints floats (s old)) (λ t. t .sweep .physical) (old .physical)
+  pub totals : new .totals ≡ lentBy (roomFirst ints floats (s old)) (λ t. t .totals) (old .totals)
+
 -- The same of l3_symbology, which reads a body by d into two buffers that held az and cs.
 pub record PictureLeaves (d : ℕ → ℕ → Result Picture) (number : ℕ) (az az' : List Float) (cs cs' : List ℕ) (ints ints' : List ℕ) (floats floats' : List Float) : Type 0 where
   pub report : Leaves (said (reportOf (figuresIn (d (length az) (length cs))) figuresReport)) number ints ints' floats floats'
@@ -109,4 +122,4 @@ physicalSaid n x file block codes np = saying (λ scheme. fillOf scheme file blo
 -- what the code says of a scheme's number
 abbrev pub askedOf : Asked → Said Scheme
 askedOf (Asked.Known s) = said s
-askedOf Asked.Unknown = failed 101
+askedOf (Asked.Failed n) = failed n

@@ -20,6 +20,7 @@ use Rattle.scale.specs.declared.scaling.Ceiling.the-variants as Ceiling
 use Rattle.scale.specs.declared.physical.Declared.{Declared}
 use Rattle.scale.specs.declared.physical.Declared.the-variants as Declared
 use Rattle.sweep.specs.declared.sweep.Sweep.{Sweep}
+use Rattle.fields.specs.declared.fields.SweepTotals.{SweepTotals}
 use Rattle.symbology.specs.declared.figures.Figures.{Figures}
 use Rattle.symbology.specs.declared.figures.Packet.{Packet}
 use Rattle.symbology.specs.declared.figures.Packet.the-variants.{Packet16, PacketAf1f, Packet28}
@@ -30,7 +31,7 @@ use Rattle.capi.specs.declared.report.Report.{Report}
 use Rattle.capi.specs.declared.places.HeadPlaces.{HeadPlaces}
 use Rattle.capi.specs.declared.places.PicturePlaces.{PicturePlaces}
 use Rattle.capi.specs.declared.places.ScalePlaces.{ScalePlaces}
-use Rattle.capi.specs.Report.{word, report}
+use Rattle.capi.specs.Report.{word, report, withPlace}
 
 -- ---- small values: nothing, a number, a signed number, a float, two floats, a part of the payload, a date
 
@@ -192,3 +193,7 @@ precipReport p = placed noHead noPicture (precipPlaces p)
 
 abbrev pub sweepReport : Sweep → Report
 sweepReport s = placed (headPlaces (s .token) (s .fields) (s .time)) (picturePlaces (s .figures)) (declaredPlaces (s .declared))
+
+-- the same, and in place 14 the number of fields
+abbrev pub totalsReport : SweepTotals → Report
+totalsReport t = withPlace (sweepReport (t .sweep)) 14 (t .fields)

@@ -46,6 +46,7 @@ bufferNumber Buffer.Azimuths = 0
 bufferNumber Buffer.Codes = 1
 bufferNumber Buffer.Physical = 2
 bufferNumber Buffer.Marks = 3
+bufferNumber Buffer.Totals = 4
 
 -- a refusal's whole numbers in order, items and buffers by their numbers
 abbrev pub wholesIn : List Value → List ℕ
@@ -71,9 +72,13 @@ abbrev pub reportOf : {A : Type 0} → Result A → (A → Report) → Report
 reportOf (accepted a) f = f a
 reportOf (refused x) f = refusalReport x
 
--- a report with a position in the last place for whole numbers
+-- a report with n in one of the places for whole numbers
+abbrev pub withPlace : Report → ℕ → ℕ → Report
+withPlace r place n = record { number = r .number; ints = set (r .ints) place n; floats = r .floats }
+
+-- with a position in the last
 abbrev pub withPosition : Report → ℕ → Report
-withPosition r at = record { number = r .number; ints = set (r .ints) 15 at; floats = r .floats }
+withPosition r at = withPlace r 15 at
 
 -- the report of a read that ended: its value or its refusal, and the position where it ended
 abbrev pub endedReport : {A : Type 0} → Ended A → (A → Report) → Report

@@ -1,7 +1,9 @@
 // What stands where in the report of an accepted value.
 use crate::report::Report;
+use crate::report::with_place;
 use crate::report::word_of;
 use crate::report::word_of_half;
+use fields::fields::SweepTotals;
 use head::pdb::PdbFields;
 use scale::physical::Declared;
 use scale::scaling::Ceiling;
@@ -14,7 +16,7 @@ use symbology::figures::Packet;
 ghost use mathlib.Core.Path.{_≡_};
 ghost use Rattle.capi.specs.Places.{placed, noHead, noPicture, noScale, headPlaces, packetNumber, rangeScale, gateWidth, firstGate};
 ghost use Rattle.capi.specs.Places.{picturePlaces, linearPlaces, ceilingNumber, precipPlaces, declaredPlaces, fieldsReport, figuresReport};
-ghost use Rattle.capi.specs.Places.{linearReport, precipReport, sweepReport};
+ghost use Rattle.capi.specs.Places.{linearReport, precipReport, sweepReport, totalsReport};
 
 pub struct HeadPlaces {
     pub token: u64,
@@ -291,4 +293,11 @@ pub(crate) fn of_sweep(s: Sweep) -> Report
         picture_places(figures),
         declared_places(declared),
     )
+}
+
+pub(crate) fn of_totals(t: SweepTotals) -> Report
+    ensures { λ r. ⌜ r ≡ totalsReport t ⌝ }
+{
+    let s = t.sweep;
+    with_place(of_sweep(s), 14, t.fields)
 }

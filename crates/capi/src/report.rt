@@ -5,8 +5,9 @@ use bytes::error::XdrItem;
 ghost use mathlib.Core.Path.{_≡_};
 ghost use mathlib.Core.List.{[], _∷_};
 ghost use mathlib.Core.Bool.{cond};
+ghost use Prim.Native.Nat.{_<_};
 ghost use Rattle.bytes.specs.Refusal.{refusalOf};
-ghost use Rattle.capi.specs.Report.{word, itemNumber, bufferNumber, report, refusalReport, withPosition, said, short, Leaves};
+ghost use Rattle.capi.specs.Report.{word, itemNumber, bufferNumber, report, refusalReport, withPlace, withPosition, said, short, Leaves};
 
 // 0 and an accepted value's places, or a refusal's number and its values. Other places hold 0.
 pub struct Report {
@@ -54,6 +55,7 @@ fn buffer_number(buffer: Buffer) -> u64
         Buffer::Codes => 1,
         Buffer::Physical => 2,
         Buffer::Marks => 3,
+        Buffer::Totals => 4,
     }
 }
 
@@ -241,21 +243,32 @@ pub(crate) fn refusal_report(error: Level3DecodeError) -> Report
         } => wholes(34, radial as u64, gate as u64, word_of(value), 0),
         Level3DecodeError::XdrTrailingBytes { remaining } => wholes(35, remaining as u64, 0, 0, 0),
         Level3DecodeError::BufferTooShort { buffer } => wholes(36, buffer_number(buffer), 0, 0, 0),
+        Level3DecodeError::PlanMalformed { offset } => wholes(37, offset as u64, 0, 0, 0),
+        Level3DecodeError::FieldRepeated { offset } => wholes(38, offset as u64, 0, 0, 0),
+        Level3DecodeError::StripOutside { offset } => wholes(39, offset as u64, 0, 0, 0),
     }
 }
 
-// The same with a position in the last place for whole numbers.
-pub(crate) fn with_position(report: Report, at: usize) -> Report
-    ensures { λ r. ⌜ r ≡ withPosition report at ⌝ }
+// The same with a number in one of the places for whole numbers.
+pub(crate) fn with_place(report: Report, place: usize, n: usize) -> Report
+    requires { ⌜ place < 16 ⌝ }
+    ensures { λ r. ⌜ r ≡ withPlace report place n ⌝ }
 {
     let mut ints = report.ints;
-    ints[15] = at as u64;
+    ints[place] = n as u64;
     let floats = report.floats;
     Report {
         number: report.number,
         ints,
         floats,
     }
+}
+
+// The same with a position in the last place.
+pub(crate) fn with_position(report: Report, at: usize) -> Report
+    ensures { λ r. ⌜ r ≡ withPosition report at ⌝ }
+{
+    with_place(report, 15, at)
 }
 
 // Whether buffers of these lengths are too short for a report.

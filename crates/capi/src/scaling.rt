@@ -5,7 +5,7 @@ use crate::report::refusal_report;
 use crate::report::wholes;
 use crate::report::write_report;
 use crate::sweeps::Asked;
-use crate::sweeps::scheme_of;
+use crate::sweeps::asked_scheme;
 use head::header::Place;
 use scale::pdb::LinearScaleRead;
 use scale::pdb::PrecipScaleRead;
@@ -165,12 +165,9 @@ pub extern "C" fn l3_physical(
         (physicalSaid scheme parameter (now (file .entry)) block (now (codes .entry)) (length (now (physical .entry)))))
         (λ values. values) (now (physical .entry)) ⌝ }
 {
-    if is_short(ints.len(), floats.len()) {
-        return 100;
-    }
-    let asked = match scheme_of(scheme, parameter) {
+    let asked = match asked_scheme(scheme, parameter, ints.len(), floats.len()) {
         Asked::Known(s) => s,
-        Asked::Unknown => return 101,
+        Asked::Failed(number) => return number,
     };
     let answer = scale::physical::fill_physical(asked, file, block, codes, physical);
     write_report(filled_report(answer), ints, floats)

@@ -1,6 +1,7 @@
 // Which lines are cases, and the answer line of each.
 use crate::kinds::Kind;
 use crate::print::say;
+use crate::sweeps::Reading;
 use crate::words::word;
 
 fn is(line: &[u8], name: &[u8]) -> bool {
@@ -63,6 +64,9 @@ fn kind_of(line: &[u8]) -> Kind {
     }
     if is(line, b"gaps") {
         return Kind::Gaps;
+    }
+    if is(line, b"plan") {
+        return Kind::Plan;
     }
     if is(line, b"sym") {
         return Kind::Symbology;
@@ -133,6 +137,7 @@ fn is_formed(line: &[u8], kind: Kind) -> bool {
     match kind {
         Kind::Sweep => has(line, b"wwcsnnnbb"),
         Kind::Gaps => has(line, b"wwcsnnnnbb"),
+        Kind::Plan => has(line, b"wwcsnnnnbbb"),
         Kind::Symbology | Kind::Token | Kind::Header | Kind::Trailing => has(line, b"wwb"),
         Kind::Time => has(line, b"wwchz"),
         Kind::Date => has(line, b"wwh"),
@@ -149,8 +154,9 @@ fn is_formed(line: &[u8], kind: Kind) -> bool {
 
 fn print(kind: Kind, line: &[u8]) {
     match kind {
-        Kind::Sweep => crate::sweeps::answer(line, false),
-        Kind::Gaps => crate::sweeps::answer(line, true),
+        Kind::Sweep => crate::sweeps::answer(line, Reading::Plain),
+        Kind::Gaps => crate::sweeps::answer(line, Reading::Gaps),
+        Kind::Plan => crate::sweeps::answer(line, Reading::Plan),
         Kind::Symbology => crate::body::symbology(line),
         Kind::Threshold => crate::tables::threshold(line),
         Kind::Legacy => crate::tables::legacy(line),

@@ -32,6 +32,13 @@ pub fn marks() -> [u8; 4096]
     [0xa5u8; 4096]
 }
 
+pub fn totals() -> [u64; 4096]
+    ensures { λ r. ⌜ r ≡ replicate 4096 11936128518282651045 ⌝ }
+    ensures { λ r. ⌜ 4096 ≡ length r ⌝ }
+{
+    [0xa5a5_a5a5_a5a5_a5a5u64; 4096]
+}
+
 // The report, with places behind it that must be kept.
 pub fn ints() -> [u64; 24]
     ensures { λ r. ⌜ r ≡ replicate 24 11936128518282651045 ⌝ }
@@ -107,15 +114,19 @@ pub fn check_marks(marks: &[u8], from: usize) {
     }
 }
 
-fn check_ints(ints: &[u64]) {
-    let mut i = 16usize;
-    while i < ints.len() {
-        if ints[i] != 0xa5a5_a5a5_a5a5_a5a5u64 {
-            say_touched(b"ints");
+fn check_words(words: &[u64], from: usize, name: &[u8]) {
+    let mut i = from;
+    while i < words.len() {
+        if words[i] != 0xa5a5_a5a5_a5a5_a5a5u64 {
+            say_touched(name);
             return;
         }
         i += 1;
     }
+}
+
+pub fn check_totals(totals: &[u64], from: usize) {
+    check_words(totals, from, b"totals");
 }
 
 fn check_floats(floats: &[f64]) {
@@ -130,6 +141,6 @@ fn check_floats(floats: &[f64]) {
 }
 
 pub fn check_report(ints: &[u64], floats: &[f64]) {
-    check_ints(ints);
+    check_words(ints, 16, b"ints");
     check_floats(floats);
 }

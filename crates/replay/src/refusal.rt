@@ -6,7 +6,7 @@ use crate::print::say;
 // How many whole numbers a refusal has.
 fn wholes(number: u32) -> usize {
     match number {
-        3 | 5 | 11 | 12 | 14 | 17 | 20 | 27 | 28 | 35 | 36 => 1,
+        3 | 5 | 11 | 12 | 14 | 17 | 20 | 27 | 28 | 35 | 36 | 37 | 38 | 39 => 1,
         4 | 13 | 15 | 19 | 24 | 25 | 26 | 29 | 30 => 2,
         21 | 22 | 23 | 31 | 32 | 34 => 3,
         16 | 18 | 33 => 4,
@@ -40,6 +40,7 @@ fn say_buffer(n: u64) {
         1 => say(b"codes"),
         2 => say(b"physical"),
         3 => say(b"marks"),
+        4 => say(b"totals"),
         _ => say(b"?"),
     }
 }

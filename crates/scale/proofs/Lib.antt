@@ -6,3 +6,4 @@ pub mod Copied
 pub mod Filling
 pub mod Examples
 pub mod Thresholds
+pub mod Valid

@@ -39,6 +39,11 @@ floorOf largest leading trailing = cond (plausible largest leading trailing) lea
 abbrev pub ceilingOf : ℕ → ℕ → ℕ → Ceiling
 ceilingOf largest leading trailing = cond (plausible largest leading trailing) (At (largest - trailing)) Absent
 
+-- a code is valid from the floor up to the ceiling, where there is one
+abbrev pub valid : ℕ → Ceiling → ℕ → Bool
+valid floor (At top) code = leb floor code && leb code top
+valid floor Absent code = leb floor code
+
 -- step factor / scale, zero point (-offset × factor) / scale, minimum floor × step + zero point
 abbrev pub scaled : Float → Float → Float → ℕ → Ceiling → PrecipScale
 scaled scale offset factor floor ceiling = record {

@@ -336,6 +336,7 @@ fn buffer_words(b: Buffer) {
         Buffer::Codes => words(b"codes: this program has room for 1324800 cells"),
         Buffer::Physical => words(b"physical: this program has room for 720000 cells"),
         Buffer::Marks => words(b"marks: this program has room for 4096 radials"),
+        Buffer::Totals => words(b"totals: this program has room for none"),
     }
     words(b", the library takes buffers of any length");
 }
@@ -351,6 +352,31 @@ fn print_last(e: Level3DecodeError) {
         Level3DecodeError::BufferTooShort { buffer } => {
             kind(36, b"BufferTooShort");
             buffer_words(buffer);
+        }
+        _ => print_plan(e),
+    }
+}
+
+// 37 to 39: a record of a field plan.
+fn print_plan(e: Level3DecodeError) {
+    match e {
+        Level3DecodeError::PlanMalformed { offset } => {
+            kind(37, b"PlanMalformed");
+            size(b"the plan's record at byte ", offset);
+        }
+        Level3DecodeError::FieldRepeated { offset } => {
+            kind(38, b"FieldRepeated");
+            size(
+                b"a number named before, in the plan's record at byte ",
+                offset,
+            );
+        }
+        Level3DecodeError::StripOutside { offset } => {
+            kind(39, b"StripOutside");
+            size(
+                b"a strip that leaves the picture, in the plan's record at byte ",
+                offset,
+            );
         }
         _ => {}
     }

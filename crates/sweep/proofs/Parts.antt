@@ -1,11 +1,12 @@
 -- An accepted sweep: the head, the body and the picture that it came from, and how many places it fills. Assumes nothing.
-use Prim.Native.Nat.{ℕ, _+_, _*_}
+use Prim.Native.Nat.{ℕ, _+_, _*_, _≤_}
 use mathlib.Core.List.{List, map}
 use mathlib.Core.Bool.{true, not}
 use mathlib.Core.Path.{_≡_, refl, sym, ap, _∙_, subst}
 use lib.ListN.{length, length-map}
 use lib.Ieee.{Float}
-use borrow.Author.Tests.{not-false}
+use lib.Dec.{ltb}
+use borrow.Author.Tests.{not-false, ltb-false}
 use Rattle.bytes.specs.Result.{accepted}
 use Rattle.bytes.specs.Reading.{Given, run}
 use Rattle.head.specs.Header.{token, messageHeader, scanTime}
@@ -82,6 +83,20 @@ module _ (scheme : Scheme) (file : List ℕ) (clock : ℕ) (na nc np : ℕ) wher
         works = not-false _ t;
         finishes = λ l. rw (t, ed, eu);
       })
+
+-- the codes of an accepted sweep had room
+pub codes-fit : (scheme : Scheme) (file : List ℕ) (clock : ℕ) (b : List ℕ) (na nc np : ℕ) (p : Accepted) → sweepOf scheme file clock b na nc np ≡ accepted p
+    → p .sweep .figures .«n_radials» * p .sweep .figures .«n_bins» ≤ nc
+unfolding sweepOf finish roomFor
+codes-fit scheme file clock b na nc np p acc =
+    through (headOf scheme file clock) _ p acc λ h eh e₁.
+    through (pictureOf b) _ p e₁ λ q eq e₂.
+    passed (not (allowed scheme (q .figures .packet))) _ _ p e₂ λ t e₃.
+    through (declaredScale (h .scaling)) _ p e₃ λ declared ed e₄.
+    through (roomFor na nc np (q .figures)) _ p e₄ λ u eu e₅.
+    passed (ltb na (q .figures .«n_radials»)) _ _ u eu λ _ e₆.
+    passed (ltb nc (q .figures .«n_radials» * q .figures .«n_bins»)) _ _ u e₆ λ c _.
+    subst (λ (x : Accepted). x .sweep .figures .«n_radials» * x .sweep .figures .«n_bins» ≤ nc) (one-value e₅) (ltb-false _ _ c)
 
 -- how many places an accepted sweep fills
 pub record Sizes (p : Accepted) : Type 0 where

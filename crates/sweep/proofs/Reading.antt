@@ -35,6 +35,7 @@ use Rattle.symbology.specs.declared.figures.FiguresRead.{FiguresRead}
 use Rattle.symbology.specs.declared.figures.FiguresRead.the-variants as FiguresRead
 use Rattle.symbology.specs.declared.figures.Terms.{Terms}
 use Rattle.sweep.specs.declared.plan.Head.{Head}
+use Rattle.sweep.specs.declared.sweep.Sweep.{Sweep}
 use Rattle.sweep.specs.declared.sweep.SweepAnswer.{SweepAnswer}
 use Rattle.sweep.specs.declared.sweep.SweepAnswer.the-variants as SweepAnswer
 use Rattle.bytes.proofs.Results.{clash, one-value, one-refusal, through, passed}
@@ -213,6 +214,47 @@ module _ (h : Head) (f : Figures) {d : DeclaredScaleRead} {D : Result Declared} 
   pub answer-value : {declared : Declared} → d ≡ DeclaredScaleRead.Value declared → sweepWith h (accepted declared) f ≡ sweepWith h D f
   answer-value is = ap (λ y. sweepWith h y f) (ap declaredScaleOf (sym is) ∙ k)
 
+-- the head is read, the terms are made of it, and the body is read on them, with buffers of na, nc and np places
+module _ (scheme : Scheme) (file : List ℕ) (clock : ℕ) (body : List ℕ) (na nc np : ℕ) where
+  pub no-head : {x : Refusal} → refused x ≡ headOf scheme file clock → refused x ≡ sweepOf scheme file clock body na nc np
+  unfolding sweepOf
+  no-head e = rw (← e)
+
+  -- what symbology refuses once the head is read
+  pub no-picture : {h : Head} {x : Refusal} → accepted h ≡ headOf scheme file clock → refused x ≡ pictureOf body → refused x ≡ sweepOf scheme file clock body na nc np
+  unfolding sweepOf
+  no-picture eh e = rw (← eh, ← e)
+
+  module _ (h : Head) (d : Result Declared) (t : Terms) (eh : accepted h ≡ headOf scheme file clock) (ed : d ≡ declaredScale (h .scaling))
+      (et : t ≡ termsFor (h .scaling) np) where
+    by-decode : sweepOf scheme file clock body na nc np ≡ then (decodeFor t body na nc) λ p. then d λ declared. accepted (swept scheme file h p declared)
+    unfolding sweepOf decodeFor
+    by-decode = rw (← eh, et) (by (pictureOf body))
+      where
+        by : (z : Result Picture)
+            → then z (finish scheme file na nc np h)
+            ≡ then (then z λ p. then (admit (termsFor (h .scaling) np) na nc (p .figures)) λ _. accepted p) λ p. then d λ declared. accepted (swept scheme file h p declared)
+        by (accepted p) = finish-is scheme file h na nc np d ed (block-start scheme file clock h (sym eh) .3) p
+        by (refused x) = refl
+
+    no-body : {x : Refusal} → decodeFor t body na nc ≡ refused x → refused x ≡ sweepOf scheme file clock body na nc np
+    no-body z = sym (by-decode ∙ rw z)
+
+    -- the answers of a check
+    pub check-refused : {x : Refusal} → refused x ≡ figuresIn (decodeFor t body na nc) → refused x ≡ sweepIn (sweepOf scheme file clock body na nc np)
+    check-refused e = ap sweepIn (no-body (refused-in (λ (p : Picture). p .figures) (decodeFor t body na nc) e))
+
+    pub check-answers : {f : Figures} {r : Result Sweep} → accepted f ≡ figuresIn (decodeFor t body na nc) → r ≡ sweepWith h d f
+        → r ≡ sweepIn (sweepOf scheme file clock body na nc np)
+    check-answers {f} e i =
+        let g = given-in (λ (p : Picture). p .figures) (decodeFor t body na nc) e in
+        i ∙ ap (sweepWith h d) (sym (g .2)) ∙ by d (g .0)
+        ∙ ap sweepIn (sym (by-decode ∙ ap (λ z. then z λ p. then d λ declared. accepted (swept scheme file h p declared)) (g .1)))
+      where
+        by : (y : Result Declared) (p : Picture) → sweepWith h y (p .figures) ≡ sweepIn (then y λ declared. accepted (swept scheme file h p declared))
+        by (accepted declared) p = refl
+        by (refused x) p = refl
+
 module _ (scheme : Scheme) (file : List ℕ) (clock : ℕ) (body : List ℕ) (az : List Float) (cs : List ℕ) (ph : List Float) where
   abbrev Reads : SweepAnswer → List Float → List ℕ → List Float → Type 0
   Reads r az' cs' ph' = Ran scheme file clock body (buffers az cs ph) (buffers az' cs' ph') r
@@ -233,8 +275,7 @@ module _ (scheme : Scheme) (file : List ℕ) (clock : ℕ) (body : List ℕ) (az
       }
 
   pub head-refused : {x : Level3DecodeError} → refused (refusalOf x) ≡ headOf scheme file clock → Reads (SweepAnswer.Refused x) az cs ph
-  unfolding sweepOf
-  head-refused {x} e = let d : refused (refusalOf x) ≡ S = rw (← e) in told d refl refl refl refl
+  head-refused e = told (no-head scheme file clock body (length az) (length cs) (length ph) e) refl refl refl refl
 
   -- the head is read, the terms are made of it, and the body is read on them
   module _ (h : Head) (d : Result Declared) (t : Terms) (eh : accepted h ≡ headOf scheme file clock) (ed : d ≡ declaredScale (h .scaling))
@@ -242,23 +283,11 @@ module _ (scheme : Scheme) (file : List ℕ) (clock : ℕ) (body : List ℕ) (az
     abbrev D : Result Picture
     D = decodeFor t body (length az) (length cs)
 
-    by-decode : S ≡ then D λ p. then d λ declared. accepted (swept scheme file h p declared)
-    unfolding sweepOf decodeFor
-    by-decode = rw (← eh, et) (by (pictureOf body))
-      where
-        by : (z : Result Picture)
-            → then z (finish scheme file (length az) (length cs) (length ph) h)
-            ≡ then (then z λ p. then (admit (termsFor (h .scaling) (length ph)) (length az) (length cs) (p .figures)) λ _. accepted p)
-            λ p. then d λ declared. accepted (swept scheme file h p declared)
-        by (accepted p) = finish-is scheme file h (length az) (length cs) (length ph) d ed (block-start scheme file clock h (sym eh) .3) p
-        by (refused x) = refl
-
     pub body-refused : {x : Level3DecodeError} {r : FiguresRead} {az' : List Float} {cs' : List ℕ} → r ≡ FiguresRead.Refused x
         → Decodes (decodeFor t body) az az' cs cs' r → Reads (SweepAnswer.Refused x) az' cs' ph
     body-refused {x} is w =
         let z = refused-in (λ (p : Picture). p .figures) D (ap figuresOf (sym is) ∙ w .answered) in
-        let r : refused (refusalOf x) ≡ S = sym (by-decode ∙ rw z) in
-        told r refl (w .azimuths ∙ ap (λ d. lent d (λ p. p .azimuths) az) z) (w .codes ∙ ap (λ d. lent d (λ p. p .codes) cs) z) refl
+        told (no-body scheme file clock body (length az) (length cs) (length ph) h d t eh ed et z) refl (w .azimuths ∙ ap (λ d. lent d (λ p. p .azimuths) az) z) (w .codes ∙ ap (λ d. lent d (λ p. p .codes) cs) z) refl
 
 -- ---- after symbology's entry has accepted
 
@@ -307,7 +336,7 @@ module _ {scheme : Scheme} {file : List ℕ} {clock : ℕ} {body : List ℕ} {az
     read i a v =
         let is = drawn-here .admitted .declares in
         let r : accepted (swept scheme file h (drawn-here .picture) (drawn-here .admitted .declared)) ≡ S scheme file clock body az cs ph =
-        sym (by-decode scheme file clock body az cs ph h d t (w .head-is) (w .declared-is) (w .terms-are)
+        sym (by-decode scheme file clock body (length az) (length cs) (length ph) h d t (w .head-is) (w .declared-is) (w .terms-are)
         ∙ ap (λ z. then z λ p. then d λ declared. accepted (swept scheme file h p declared)) drawn-is
         ∙ ap (λ y. then y λ declared. accepted (swept scheme file h (drawn-here .picture) declared)) is) in
         told scheme file clock body az cs ph r

@@ -11,7 +11,7 @@ use symbology::figures::Figures;
 use symbology::figures::FiguresRead;
 ghost use mathlib.Core.Path.{_≡_};
 ghost use Rattle.scale.specs.Physical.{declaredScale};
-ghost use Rattle.sweep.specs.Sweep.{answerOf, sweepWith, buffers, Ran};
+ghost use Rattle.sweep.specs.Sweep.{answerOf, sweepIn, sweepOf, sweepWith, buffers, Ran};
 
 // What acceptance gives beside the picture. The token stands at `token` in the file: product there, site three bytes on.
 pub struct Sweep {
@@ -42,6 +42,30 @@ pub fn answer_of(head: Head, figures: Figures) -> SweepAnswer
             declared,
             figures,
         }),
+    }
+}
+
+// What the sweep reading answers with buffers of so many places; nothing is written.
+pub fn check_sweep(
+    file: &[u8],
+    clock: u64,
+    scheme: Scheme,
+    body: &[u8],
+    azimuths: usize,
+    codes: usize,
+    physical: usize,
+) -> SweepAnswer
+    ensures { λ r. ⌜ answerOf r ≡ sweepIn (sweepOf scheme (now (file .entry)) clock (now (body .entry)) azimuths codes physical) ⌝ }
+{
+    let head = match crate::plan::read_head(scheme, file, clock) {
+        HeadRead::Value(h) => h,
+        HeadRead::Refused(e) => return SweepAnswer::Refused(e),
+    };
+    let scaling = head.scaling;
+    let terms = crate::plan::terms_for(scaling, physical);
+    match symbology::symbology::check_for(body, terms, azimuths, codes) {
+        FiguresRead::Refused(e) => SweepAnswer::Refused(e),
+        FiguresRead::Value(figures) => answer_of(head, figures),
     }
 }
 

@@ -17,12 +17,12 @@ use Rattle.xdr.specs.Xdr.{atLeast0}
 use Rattle.bytes.specs.declared.error.Level3DecodeError.{Level3DecodeError}
 use Rattle.symbology.specs.Symbology.{Sweep, bodyShort, symbology}
 use Rattle.symbology.specs.Answers.{stepOf, Picture, joined, pictureOf, asked, roomIn, admit, decodeFor, figuresIn, figuresOf, Decodes}
-use Rattle.symbology.specs.Walk.{inMode, anyWalk, Plotted, Plots}
+use Rattle.symbology.specs.Walk.{inMode, anyWalk, Plotted, Plots, onTerms, planned}
 use Rattle.symbology.specs.declared.figures.Figures.{Figures}
 use Rattle.symbology.specs.declared.figures.Terms.{Terms}
 use Rattle.symbology.specs.declared.figures.FiguresRead.{FiguresRead}
 use Rattle.symbology.specs.declared.figures.FiguresRead.the-variants as FiguresRead
-use Rattle.bytes.proofs.Results.{through, passed}
+use Rattle.bytes.proofs.Results.{one-value, through, passed}
 use Rattle.symbology.specs.declared.spans.BodyPlan.{BodyPlan}
 use Rattle.symbology.specs.declared.spans.BodyPlan.the-variants as BodyPlan
 
@@ -48,28 +48,16 @@ module _ (m : Bool) (body : List ℕ) (R : Result (Given Sweep)) {r : BodyPlan} 
   unfolding Plots
   plan-value h = subst (λ x. Plots m x body R) h plots
 
--- ---- the picture
+-- the figures of what was read
+abbrev figuresRead : Result (Given Sweep) → Result Figures
+figuresRead R = then R λ g. accepted (g .value .figures)
 
-abbrev drawn : Figures → Given (List Float) → Picture
-drawn f g = record { figures = f; azimuths = g .value; codes = joined (g .rows) }
+pub plan-figures : (m : Bool) (body : List ℕ) (R : Result (Given Sweep)) (r : BodyPlan) {q : FiguresRead} → Plots m r body R → q ≡ planned r → figuresOf q ≡ figuresRead R
+unfolding Plots
+plan-figures m body R (BodyPlan.Value f from to at) p e = ap figuresOf e ∙ sym (ap figuresRead (p .whole))
+plan-figures m body R (BodyPlan.Refused x) p e = ap figuresOf e ∙ ap figuresRead p
 
-module _ (body : List ℕ) where
-  pub picture-refused : {x : Refusal} → refused x ≡ run (inMode false symbology) body 0 → refused x ≡ pictureOf body
-  unfolding pictureOf inMode
-  picture-refused h = rw (← h) refl
-
-  pub picture-is : {f : Figures} {from to at : ℕ} (p : Plotted false f from to at body (run (inMode false symbology) body 0)) → accepted (drawn f (p .radials)) ≡ pictureOf body
-  unfolding pictureOf inMode
-  picture-is p = rw (p .whole) refl
-
--- the radials, in the part of the body that the code takes
-abbrev pub radialsIn : Bool → List ℕ → Figures → ℕ → ℕ → ℕ → Result (Given (List Float))
-radialsIn m body f from to at = run (inMode m (anyWalk (f .packet) (f .«n_radials») (f .«n_bins») (f .«n_radials») 0)) (take (to - from) (drop from body)) at
-
-pub radials-there : (m : Bool) (body : List ℕ) {f : Figures} {from to at : ℕ} {R : Result (Given Sweep)} (p : Plotted m f from to at body R) → radialsIn m body f from to at ≡ accepted (p .radials)
-radials-there m body {f} {from} {to} {at} p = rw (part-slice body from to (p .ordered)) (p .radials-are)
-
--- ---- on terms
+-- ---- the terms
 
 pub admit-room : (t : Terms) (na nc : ℕ) (f : Figures) → accepted tt ≡ admit t na nc f → (f .«n_radials» ≤ na) × (f .«n_radials» * f .«n_bins» ≤ nc)
 unfolding admit roomIn
@@ -91,6 +79,81 @@ admit-is t na nc f i j k m n = rw (n, m, i, j, k) (by (not (asked (t .packets) (
     by true z = refl
     by false z = refl
 
+-- ---- a plan on terms
+
+module _ (t : Terms) (na nc : ℕ) (R : Result (Given Sweep)) where
+  pub refused-before : {x : Refusal} → refused x ≡ R → refused x ≡ onTerms t na nc R
+  unfolding onTerms
+  refused-before h = rw (← h) refl
+
+  module _ {m : Bool} {body : List ℕ} {f : Figures} {from to at : ℕ} where
+    pub not-admitted : {x : Refusal} → Plotted m f from to at body R → refused x ≡ admit t na nc f → refused x ≡ onTerms t na nc R
+    unfolding onTerms
+    not-admitted p h = rw (p .whole, ← h) refl
+
+    pub is-admitted : Plotted m f from to at body R → accepted tt ≡ admit t na nc f → Plotted m f from to at body (onTerms t na nc R)
+    unfolding onTerms
+    is-admitted p h =
+        record {
+          radials = p .radials;
+          end = p .end;
+          small = p .small;
+          cells = p .cells;
+          ordered = p .ordered;
+          inside = p .inside;
+          radials-are = p .radials-are;
+          whole = rw (p .whole, ← h);
+        }
+
+    pub was-admitted : Plotted m f from to at body (onTerms t na nc R) → accepted tt ≡ admit t na nc f
+    unfolding onTerms
+    was-admitted p =
+        through R (λ g. then (admit t na nc (g .value .figures)) λ _. accepted g) _ (p .whole) λ g _ e.
+        through {C = accepted tt ≡ admit t na nc f} (admit t na nc (g .value .figures)) (λ _. accepted g) _ e λ u h same.
+        sym h ∙ ap (λ (x : Given Sweep). admit t na nc (x .value .figures)) (one-value same)
+
+-- what is made of a reading and then asked of its figures, the same on terms
+pub asked-on : {P C : Type 0} (t : Terms) (na nc : ℕ) (make : Given Sweep → P) (figures : P → Figures) → ((g : Given Sweep) → figures (make g) ≡ g .value .figures)
+    → (next : P → Result C) (R : Result (Given Sweep))
+    → then (then R λ g. accepted (make g)) (λ p. then (admit t na nc (figures p)) λ _. next p) ≡ then (onTerms t na nc R) λ g. next (make g)
+unfolding onTerms
+asked-on t na nc make figures same next (accepted g) = rw (same g) (by (admit t na nc (g .value .figures)))
+  where
+    by : (z : Result (Unit {0})) → then z (λ _. next (make g)) ≡ then (then z λ _. accepted g) λ g. next (make g)
+    by (accepted u) = refl
+    by (refused x) = refl
+asked-on t na nc make figures same next (refused x) = refl
+
+-- ---- the picture
+
+abbrev drawn : Figures → Given (List Float) → Picture
+drawn f g = record { figures = f; azimuths = g .value; codes = joined (g .rows) }
+
+abbrev pictured : Given Sweep → Picture
+pictured g = record { figures = g .value .figures; azimuths = g .value .azimuths; codes = joined (g .rows) }
+
+same-figures : (R : Result (Given Sweep)) → figuresRead R ≡ figuresIn (then R λ g. accepted (pictured g))
+same-figures (accepted g) = refl
+same-figures (refused x) = refl
+
+pub body-figures : (body : List ℕ) → figuresRead (run (inMode false symbology) body 0) ≡ figuresIn (pictureOf body)
+unfolding pictureOf inMode
+body-figures body = same-figures (run symbology body 0)
+
+decode-by : (t : Terms) (body : List ℕ) (na nc : ℕ) → decodeFor t body na nc ≡ then (onTerms t na nc (run (inMode false symbology) body 0)) λ g. accepted (pictured g)
+unfolding decodeFor pictureOf inMode
+decode-by t body na nc = asked-on t na nc pictured (λ p. p .figures) (λ g. refl) accepted (run symbology body 0)
+
+pub figures-on-terms : (t : Terms) (body : List ℕ) (na nc : ℕ) → figuresRead (onTerms t na nc (run (inMode false symbology) body 0)) ≡ figuresIn (decodeFor t body na nc)
+figures-on-terms t body na nc = rw (decode-by t body na nc) (same-figures (onTerms t na nc (run (inMode false symbology) body 0)))
+
+-- the radials, in the part of the body that the code takes
+abbrev pub radialsIn : Bool → List ℕ → Figures → ℕ → ℕ → ℕ → Result (Given (List Float))
+radialsIn m body f from to at = run (inMode m (anyWalk (f .packet) (f .«n_radials») (f .«n_bins») (f .«n_radials») 0)) (take (to - from) (drop from body)) at
+
+pub radials-there : (m : Bool) (body : List ℕ) {f : Figures} {from to at : ℕ} {R : Result (Given Sweep)} (p : Plotted m f from to at body R) → radialsIn m body f from to at ≡ accepted (p .radials)
+radials-there m body {f} {from} {to} {at} p = rw (part-slice body from to (p .ordered)) (p .radials-are)
+
 -- the figures, and the buffers that held az and cs
 answered : {e : ℕ → ℕ → Result Picture} {d : Result Picture} (az : List Float) (cs : List ℕ) {r : FiguresRead} → d ≡ e (length az) (length cs) → figuresOf r ≡ figuresIn d
     → {az' : List Float} {cs' : List ℕ} → az' ≡ lent d (λ p. p .azimuths) az → cs' ≡ lent d (λ p. p .codes) cs → Decodes e az az' cs cs' r
@@ -105,20 +168,19 @@ module _ (t : Terms) (body : List ℕ) (az : List Float) (cs : List ℕ) where
   abbrev Decoded : List Float → List ℕ → FiguresRead → Type 0
   Decoded az' cs' = Decodes (decodeFor t body) az az' cs cs'
 
-  pub decode-refused : {x : Level3DecodeError} → refused (refusalOf x) ≡ run (inMode false symbology) body 0 → Decoded az cs (FiguresRead.Refused x)
-  unfolding decodeFor
-  decode-refused {x} h = let d : refused (refusalOf x) ≡ decodeFor t body (length az) (length cs) = rw (← picture-refused body h) refl in answered az cs d refl refl refl
+  -- the body's reading on the terms, with these buffers
+  abbrev R : Result (Given Sweep)
+  R = onTerms t (length az) (length cs) (run (inMode false symbology) body 0)
 
-  module _ {f : Figures} {from to at : ℕ} (p : Plotted false f from to at body (run (inMode false symbology) body 0)) where
-    pub decode-halted : {x : Level3DecodeError} → refused (refusalOf x) ≡ admit t (length az) (length cs) f → Decoded az cs (FiguresRead.Refused x)
-    unfolding decodeFor
-    decode-halted {x} h = let d : refused (refusalOf x) ≡ decodeFor t body (length az) (length cs) = rw (← picture-is body p, ← h) refl in answered az cs d refl refl refl
+  pub decode-refused : {x : Level3DecodeError} → refused (refusalOf x) ≡ R → Decoded az cs (FiguresRead.Refused x)
+  decode-refused {x} h =
+      let d : refused (refusalOf x) ≡ decodeFor t body (length az) (length cs) = rw (decode-by t body (length az) (length cs), ← h) refl in
+      answered az cs d refl refl refl
 
-    pub decode-is : {az' : List Float} {cs' : List ℕ} → accepted tt ≡ admit t (length az) (length cs) f
-        → az' ≡ lent (radialsIn false body f from to at) (λ g. g .value) az → cs' ≡ lent (radialsIn false body f from to at) (λ g. joined (g .rows)) cs
-        → Decoded az' cs' (FiguresRead.Value f)
-    unfolding decodeFor
-    decode-is h a c =
-        let d : accepted (drawn f (p .radials)) ≡ decodeFor t body (length az) (length cs) = rw (← picture-is body p, ← h) refl in
-        let e = radials-there false body p in
-        answered az cs d refl (a ∙ ap (λ r. lent r (λ g. g .value) az) e) (c ∙ ap (λ r. lent r (λ g. joined (g .rows)) cs) e)
+  pub decode-is : {f : Figures} {from to at : ℕ} (p : Plotted false f from to at body R) {az' : List Float} {cs' : List ℕ}
+      → az' ≡ lent (radialsIn false body f from to at) (λ g. g .value) az → cs' ≡ lent (radialsIn false body f from to at) (λ g. joined (g .rows)) cs
+      → Decoded az' cs' (FiguresRead.Value f)
+  decode-is {f} p a c =
+      let d : accepted (drawn f (p .radials)) ≡ decodeFor t body (length az) (length cs) = rw (decode-by t body (length az) (length cs), p .whole) refl in
+      let e = radials-there false body p in
+      answered az cs d refl (a ∙ ap (λ r. lent r (λ g. g .value) az) e) (c ∙ ap (λ r. lent r (λ g. joined (g .rows)) cs) e)

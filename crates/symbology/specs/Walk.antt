@@ -17,7 +17,7 @@ use Rattle.bytes.specs.Reading.{Read, Flat, gaps, marked, give, remaining, _>>=
 use Rattle.xdr.specs.Xdr.{pointer, elements}
 use Rattle.symbology.specs.Centre.{centre}
 use Rattle.symbology.specs.Rows.{rowOf, codesOf, FullRow}
-use Rattle.symbology.specs.Answers.{joined, shown, markOf, decodeFor, gapDecodeFor, Decodes, DecodesWithGaps}
+use Rattle.symbology.specs.Answers.{joined, shown, markOf, admit, decodeFor, gapDecodeFor, Decodes, DecodesWithGaps}
 use Rattle.symbology.specs.Places.{Enough}
 use Rattle.symbology.specs.Symbology.{Sweep, Header, XdrRadial, covered, frame, xdrFrame, Gates28, component, only}
 use Rattle.symbology.specs.declared.figures.Packet.{Packet}
@@ -34,6 +34,7 @@ use Rattle.symbology.specs.declared.spans.BodyPlan.the-variants as BodyP
 use Rattle.symbology.specs.declared.figures.Figures.{Figures}
 use Rattle.symbology.specs.declared.figures.Terms.{Terms}
 use Rattle.symbology.specs.declared.figures.FiguresRead.{FiguresRead}
+use Rattle.symbology.specs.declared.figures.FiguresRead.the-variants as FiguresRead
 use Rattle.symbology.specs.declared.radials.HeaderRead.{HeaderRead}
 use Rattle.symbology.specs.declared.radials.HeaderRead.the-variants as HeaderRead
 use Rattle.symbology.specs.declared.spans.SpanRead.{SpanRead}
@@ -277,3 +278,15 @@ Plots gapped (BodyPlan.Refused e) body R = refused (refusalOf e) ≡ R
 abbrev pub inPart : ℕ → ℕ → PlanRead → BodyPlan
 inPart from to (PlanRead.Value f at next) = BodyPlan.Value f from to at
 inPart from to (PlanRead.Refused e) = BodyPlan.Refused e
+
+-- a body's reading on terms, with buffers of na and nc places: its own refusals, then 10, 9, 36
+unfoldable pub onTerms : Terms → ℕ → ℕ → Result (Given Sweep) → Result (Given Sweep)
+onTerms t na nc reading =
+    then reading λ g.
+    then (admit t na nc (g .value .figures)) λ _.
+    accepted g
+
+-- the figures of a plan
+abbrev pub planned : BodyPlan → FiguresRead
+planned (BodyPlan.Value f from to at) = FiguresRead.Value f
+planned (BodyPlan.Refused e) = FiguresRead.Refused e

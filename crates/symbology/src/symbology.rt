@@ -25,7 +25,7 @@ ghost use Rattle.bytes.specs.Reading.{run};
 ghost use Rattle.symbology.specs.Symbology.{radialPacket, genericPacket, bodyShort, symbology};
 ghost use Rattle.symbology.specs.Answers.{asked, tooFew, stepOf, roomIn, admit, pictureOf, decodeFor, decodeOf, gapDecodeFor, figuresIn};
 ghost use Rattle.symbology.specs.Answers.{figuresOf, checkOf, Decodes, DecodesWithGaps};
-ghost use Rattle.symbology.specs.Walk.{inMode, inPart, Plots, DecodesIn};
+ghost use Rattle.symbology.specs.Walk.{inMode, inPart, Plots, onTerms, planned, DecodesIn};
 
 const RADIAL_PACKET_CODE: u16 = 16;
 
@@ -148,11 +148,10 @@ fn plan(body: &[u8], gaps: bool) -> BodyPlan
     })
 }
 
-// The figures of a body that is accepted; nothing is written.
-pub fn check(body: &[u8]) -> FiguresRead
-    ensures { λ r. ⌜ figuresOf r ≡ figuresIn (pictureOf (now (body .entry))) ⌝ }
+fn figures_of(plan: BodyPlan) -> FiguresRead
+    ensures { λ r. ⌜ r ≡ planned plan ⌝ }
 {
-    match plan(body, false) {
+    match plan {
         BodyPlan::Refused(refusal) => FiguresRead::Refused(refusal),
         BodyPlan::Value {
             figures,
@@ -161,6 +160,13 @@ pub fn check(body: &[u8]) -> FiguresRead
             at: _,
         } => FiguresRead::Value(figures),
     }
+}
+
+// The figures of a body that is accepted; nothing is written.
+pub fn check(body: &[u8]) -> FiguresRead
+    ensures { λ r. ⌜ figuresOf r ≡ figuresIn (pictureOf (now (body .entry))) ⌝ }
+{
+    figures_of(plan(body, false))
 }
 
 fn is_asked(packets: Packets, packet: Packet) -> bool
@@ -263,6 +269,36 @@ fn test_terms(terms: Terms, azimuths: usize, codes: usize, figures: Figures) -> 
     both(packet, both(step, room))
 }
 
+// The whole body, checked, and then 10, 9, 36 with buffers of so many places.
+fn plan_for(body: &[u8], terms: Terms, azimuths: usize, codes: usize, gaps: bool) -> BodyPlan
+    ensures { λ r. ⌜ Plots gaps r (now (body .entry)) (onTerms terms azimuths codes (run (inMode gaps symbology) (now (body .entry)) 0)) ⌝ }
+{
+    match plan(body, gaps) {
+        BodyPlan::Refused(error) => BodyPlan::Refused(error),
+        BodyPlan::Value {
+            figures,
+            from,
+            to,
+            at,
+        } => match test_terms(terms, azimuths, codes, figures) {
+            Check::Refused(error) => BodyPlan::Refused(error),
+            Check::Passed => BodyPlan::Value {
+                figures,
+                from,
+                to,
+                at,
+            },
+        },
+    }
+}
+
+// The figures of a body that is accepted on terms, with buffers of so many places; nothing is written.
+pub fn check_for(body: &[u8], terms: Terms, azimuths: usize, codes: usize) -> FiguresRead
+    ensures { λ r. ⌜ figuresOf r ≡ figuresIn (decodeFor terms (now (body .entry)) azimuths codes) ⌝ }
+{
+    figures_of(plan_for(body, terms, azimuths, codes, false))
+}
+
 // No room for the marks, which are written with gaps alone.
 fn no_marks(gaps: bool, marks: usize, n_radials: usize) -> bool
     ensures { λ r. ⌜ r ≡ (gaps && ltb marks «n_radials») ⌝ }
@@ -285,36 +321,33 @@ fn decode_in(
     ensures { λ r. ⌜ DecodesIn gaps terms (now (body .entry)) (now (azimuths .entry)) (now (azimuths .exit))
         (now (codes .entry)) (now (codes .exit)) (now (marks .entry)) (now (marks .exit)) r ⌝ }
 {
-    match plan(body, gaps) {
+    match plan_for(body, terms, azimuths.len(), codes.len(), gaps) {
         BodyPlan::Refused(error) => FiguresRead::Refused(error),
         BodyPlan::Value {
             figures,
             from,
             to,
             at,
-        } => match test_terms(terms, azimuths.len(), codes.len(), figures) {
-            Check::Refused(error) => FiguresRead::Refused(error),
-            Check::Passed => {
-                if no_marks(gaps, marks.len(), figures.n_radials) {
-                    return FiguresRead::Refused(Level3DecodeError::BufferTooShort {
-                        buffer: Buffer::Marks,
-                    });
-                }
-                let packet = figures.packet;
-                crate::walks::write_radials(
-                    packet,
-                    &body[from..to],
-                    at,
-                    figures.n_radials,
-                    figures.n_bins,
-                    azimuths,
-                    codes,
-                    marks,
-                    gaps,
-                );
-                FiguresRead::Value(figures)
+        } => {
+            if no_marks(gaps, marks.len(), figures.n_radials) {
+                return FiguresRead::Refused(Level3DecodeError::BufferTooShort {
+                    buffer: Buffer::Marks,
+                });
             }
-        },
+            let packet = figures.packet;
+            crate::walks::write_radials(
+                packet,
+                &body[from..to],
+                at,
+                figures.n_radials,
+                figures.n_bins,
+                azimuths,
+                codes,
+                marks,
+                gaps,
+            );
+            FiguresRead::Value(figures)
+        }
     }
 }
 

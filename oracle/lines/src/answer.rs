@@ -1,8 +1,8 @@
 //! One answer: what a reading gives, when two are equal, and its line.
-use crate::text::{array, bits32, bits64, hex};
+use crate::text::{array, bits32, bits64, hex, list};
 use std::fmt::{Display, Formatter, Result};
 
-/// A refusal: its number in document 01's table and the numbers it carries, whole ones in the order of the Rust's error.
+/// A refusal: its number in document 01's table, which document 02 goes on with, and the numbers it carries, whole ones in the order of the Rust's error.
 /// 23 starts with the item's place in `ITEMS`, 36 with the buffer's in `BUFFERS`.
 #[derive(Debug, Clone, Copy)]
 pub struct Refusal {
@@ -12,10 +12,10 @@ pub struct Refusal {
 }
 
 pub const ITEMS: [&str; 7] = ["int", "uint", "float", "string_body", "padding", "array_body", "packet_body"];
-pub const BUFFERS: [&str; 4] = ["azimuths", "codes", "physical", "marks"];
+pub const BUFFERS: [&str; 5] = ["azimuths", "codes", "physical", "marks", "totals"];
 
 /// The table's names, from 1.
-pub const NAMES: [&str; 36] = [
+pub const NAMES: [&str; 39] = [
     "NoAwipsToken",
     "NoMessageHeader",
     "PdbFieldOutOfBounds",
@@ -52,6 +52,9 @@ pub const NAMES: [&str; 36] = [
     "XdrRawLevelOutOfRange",
     "XdrTrailingBytes",
     "BufferTooShort",
+    "PlanMalformed",
+    "FieldRepeated",
+    "StripOutside",
 ];
 
 #[derive(Debug, Clone, Copy, PartialEq, Eq)]
@@ -138,6 +141,8 @@ pub enum Answer {
     Sweep(Box<Sweep>),
     /// A gap reading: a mark for each radial, 1 where the row is a gap.
     Gaps(Box<Sweep>, Vec<u8>),
+    /// A sweep and a total for each field of the plan.
+    Totals(Box<Sweep>, Vec<u64>),
     Picture(Box<Picture>),
     Token([u8; 6]),
     Number(i128),
@@ -205,7 +210,7 @@ impl Refusal {
         match number {
             7..=9 => (0, 1),
             20 => (1, 1),
-            3 | 5 | 11 | 12 | 14 | 17 | 27 | 28 | 35 | 36 => (1, 0),
+            3 | 5 | 11 | 12 | 14 | 17 | 27 | 28 | 35..=39 => (1, 0),
             4 | 13 | 15 | 19 | 24 | 25 | 26 | 29 | 30 => (2, 0),
             21 | 22 | 23 | 31 | 32 | 34 => (3, 0),
             16 | 18 | 33 => (4, 0),
@@ -327,6 +332,7 @@ impl Answer {
             (Refused(a), Refused(b)) => a.same(b),
             (Sweep(a), Sweep(b)) => a.same(b),
             (Gaps(a, c), Gaps(b, d)) => a.same(b) && c == d,
+            (Totals(a, c), Totals(b, d)) => a.same(b) && c == d,
             (Picture(a), Picture(b)) => a.same(b),
             (Token(a), Token(b)) => a == b,
             (Number(a), Number(b)) => a == b,
@@ -459,6 +465,7 @@ impl Display for Answer {
                 let cells = s.picture.radials * s.picture.bins;
                 write!(f, "A {s} marks={}", array(marks.iter().map(|m| [*m]), cells))
             }
+            Answer::Totals(s, totals) => write!(f, "A {s} totals={}", list(totals)),
             Answer::Picture(p) => write!(f, "A {p}"),
             Answer::Token(t) => write!(f, "A {} {}", t[..3].escape_ascii(), t[3..].escape_ascii()),
             Answer::Number(n) => write!(f, "A {n}"),

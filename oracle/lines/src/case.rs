@@ -44,6 +44,16 @@ pub enum Case {
         file: Vec<u8>,
         body: Vec<u8>,
     },
+    /// A field plan: a sweep's input, how many totals are lent, and the plan.
+    Plan {
+        clock: i128,
+        scheme: Scheme,
+        lent: Lent,
+        totals: usize,
+        file: Vec<u8>,
+        body: Vec<u8>,
+        plan: Vec<u8>,
+    },
     Sym {
         body: Vec<u8>,
     },
@@ -214,6 +224,7 @@ impl Case {
         match self {
             Case::Sweep { .. } => "sweep",
             Case::Gaps { .. } => "gaps",
+            Case::Plan { .. } => "plan",
             Case::Sym { .. } => "sym",
             Case::Token { .. } => "token",
             Case::Mhb { .. } => "mhb",
@@ -243,10 +254,20 @@ impl Case {
         }
     }
 
-    /// The ordinary reading of a gap reading's input.
+    /// A sweep's input with a field plan.
+    pub fn with_plan(self, totals: usize, plan: Vec<u8>) -> Case {
+        match self {
+            Case::Sweep { clock, scheme, lent, file, body } => Case::Plan { clock, scheme, lent, totals, file, body, plan },
+            other => other,
+        }
+    }
+
+    /// The ordinary reading of a gap reading's input, or of a plan's.
     pub fn ordinary(self) -> Case {
         match self {
-            Case::Gaps { clock, scheme, lent, file, body, .. } => Case::Sweep { clock, scheme, lent, file, body },
+            Case::Gaps { clock, scheme, lent, file, body, .. } | Case::Plan { clock, scheme, lent, file, body, .. } => {
+                Case::Sweep { clock, scheme, lent, file, body }
+            }
             other => other,
         }
     }
@@ -268,6 +289,7 @@ impl Case {
         let case = match word(0)? {
             "sweep" => sweep(7)?,
             "gaps" => sweep(8)?.with_marks(number(word(7)?)?),
+            "plan" => sweep(8)?.with_plan(number(word(7)?)?, bytes(10)?),
             "sym" => Case::Sym { body: bytes(2)? },
             "token" => Case::Token { file: bytes(2)? },
             "mhb" => Case::Mhb { file: bytes(2)? },
@@ -317,6 +339,11 @@ impl Case {
             Case::Gaps { clock, scheme, lent, marks, file, body } => {
                 let Lent { azimuths, codes, physical } = lent;
                 format!("{clock} {} {azimuths} {codes} {physical} {marks} {} {}", scheme.text(), hex(file), hex(body))
+            }
+            Case::Plan { clock, scheme, lent, totals, file, body, plan } => {
+                let Lent { azimuths, codes, physical } = lent;
+                let places = format!("{azimuths} {codes} {physical} {totals}");
+                format!("{clock} {} {places} {} {} {}", scheme.text(), hex(file), hex(body), hex(plan))
             }
             Case::Sym { body } => hex(body),
             Case::Token { file } | Case::Mhb { file } => hex(file),

@@ -23,6 +23,14 @@ pub fn unhex(s: &str) -> Result<Vec<u8>, String> {
     s.as_bytes().chunks(2).map(|p| Ok((digit(p[0])? << 4 | digit(p[1])?) as u8)).collect()
 }
 
+/// Numbers with commas.
+pub fn list<T: ToString>(numbers: &[T]) -> String {
+    if numbers.is_empty() {
+        return "-".into();
+    }
+    numbers.iter().map(T::to_string).collect::<Vec<_>>().join(",")
+}
+
 pub fn bits32(x: f32) -> u32 {
     if x.is_nan() {
         0x7fc0_0000

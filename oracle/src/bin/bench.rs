@@ -6,6 +6,7 @@
 //! its arrays would push those of the two out of the caches. The port writes into buffers that are not cleared in between; the Rust
 //! allocates its arrays, as it always does.
 use lines::{Answer, Case, Lent, Packet, Scheme};
+use oracle::make::plans::{self, Record};
 use oracle::make::{body, generic, Rng};
 use oracle::port::{Entries, Port, Timed};
 use oracle::program::{self, Arguments};
@@ -50,7 +51,24 @@ fn main() {
         Job { entries, rounds, name, body, lent }.gaps();
     }
     println!();
+    println!("| packet | plan, precipitation | sweep, µs | with totals, µs | totals / sweep |");
+    println!("|---|---|---:|---:|---:|");
+    let lent = Lent { azimuths: 720, codes: 720 * 1840, physical: 720 * 1840 };
+    let job = Job { entries, rounds, name: "16, 720 × 1840", body: &sixteen, lent };
+    job.totals("empty", &[]);
+    job.totals("4,096 strips of 323 gates, 64 fields", &strips());
+    println!();
     println!("medians of {rounds} interleaved runs");
+}
+
+/// As many strips as a plan may have, over as many cells as the picture has.
+fn strips() -> Vec<u8> {
+    let strips = (0..4096).map(|k| Record::Strip([k % 720, k / 720 * 303, 323, k]));
+    let mut records: Vec<Record> = strips.collect();
+    for field in (0..64).rev() {
+        records.insert(64 * field, Record::Field(field as u16));
+    }
+    plans::bytes(&records)
 }
 
 struct Job<'a> {
@@ -102,13 +120,31 @@ impl Job<'_> {
         let file = sample::bench_files().into_iter().find(|(_, scheme, _)| *scheme == Scheme::Class).unwrap().2;
         let mut one = Timed::new(self.entries, &file, CLOCK, Scheme::Class, self.body, self.lent);
         let mut other = Timed::new(self.entries, &file, CLOCK, Scheme::Class, self.body, self.lent);
-        let [sweep, gaps] = self.medians([Timer::new(|| assert_eq!(one.sweep(), 0)), Timer::new(|| assert_eq!(other.gaps(), 0))]);
+        let [sweep, gaps] =
+            self.medians([Timer::new(|| assert_eq!(one.sweep(), 0)), Timer::new(|| assert_eq!(other.gaps(), 0))]);
         println!("| {} | whole body | {sweep:.1} | {gaps:.1} | {:.2} |", self.name, gaps / sweep);
+    }
+
+    /// A plan beside the ordinary reading; the Rust has none.
+    fn totals(&self, name: &str, plan: &[u8]) {
+        let files = sample::bench_files();
+        let (_, scheme, file) = files.iter().find(|(_, scheme, _)| matches!(scheme, Scheme::Precip(_))).unwrap();
+        let (scheme, lent, body) = (*scheme, self.lent, self.body.to_vec());
+        let case = Case::Sweep { clock: CLOCK.into(), scheme, lent, file: file.clone(), body };
+        let case = case.with_plan(64, plan.to_vec());
+        self.alike(&case, wanted::answer(&case));
+        let [mut one, mut other] = [0, 1].map(|_| Timed::new(self.entries, file, CLOCK, scheme, self.body, lent));
+        let [sweep, totals] =
+            self.medians([Timer::new(|| assert_eq!(one.sweep(), 0)), Timer::new(|| assert_eq!(other.totals(plan), 0))]);
+        println!("| {} | {name} | {sweep:.1} | {totals:.1} | {:.2} |", self.name, totals / sweep);
     }
 
     /// What is timed must give the same answer.
     fn agree(&self, case: &Case) {
-        let rust = wanted::altered(case, radish_fast::answer(case));
+        self.alike(case, wanted::altered(case, radish_fast::answer(case)));
+    }
+
+    fn alike(&self, case: &Case, rust: Answer) {
         assert!(!matches!(rust, Answer::Refused(_)), "{}: {rust}", self.name);
         let port = Port::new(self.entries).run(case, self.lent);
         if !rust.same(&port.answer) || port.fault.is_some() {

@@ -58,6 +58,7 @@ impl Compare {
         }
         self.every_width(seed);
         self.gaps_fixed(seed);
+        self.plans_fixed(seed);
         self.mixed_radials(seed);
         self.every_centre(seed);
         self.caps(seed);
@@ -552,7 +553,7 @@ impl Compare {
 }
 
 /// A file whose scale fields pass under the scheme.
-fn plain_file(rng: &mut Rng, scheme: Scheme) -> Vec<u8> {
+pub(super) fn plain_file(rng: &mut Rng, scheme: Scheme) -> Vec<u8> {
     let mut made = file::file(rng, scheme, 20_000, 3600);
     match scheme {
         Scheme::Halfword => made.set(23, &5i16.to_be_bytes()),
@@ -577,7 +578,7 @@ fn value_at_0(mut file: Vec<u8>, scheme: Scheme) -> Vec<u8> {
 }
 
 /// Data that make no row, after a first cell: one run of one cell or of two, or a last level over 16 bits. Packet 16 has no such data.
-fn spoil(body: &mut [u8], radial: usize) {
+pub(super) fn spoil(body: &mut [u8], radial: usize) {
     let layout = model::layout(body);
     let data = &mut body[layout.data[radial].clone()];
     match layout.packet {
@@ -599,7 +600,7 @@ fn small(rng: &mut Rng, packet: Packet, scheme: Scheme) -> (Vec<u8>, Body) {
     (plain_file(rng, scheme), body::of_size(rng, packet, radials, bins))
 }
 
-fn whole(scheme: Scheme, file: &[u8], body: Vec<u8>) -> Case {
+pub(super) fn whole(scheme: Scheme, file: &[u8], body: Vec<u8>) -> Case {
     let lent = Lent { azimuths: 4, codes: 20, physical: 19 };
     Case::Sweep { clock: 1 << 40, scheme, lent, file: file.to_vec(), body }
 }

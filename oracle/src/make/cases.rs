@@ -1,6 +1,7 @@
 //! Whole cases, in weights that make every refusal and every packet under every scheme occur often.
 use super::body::{self, Body};
 use super::file::{self, File};
+use super::plans::{self, Record};
 use super::Rng;
 use crate::damage;
 use crate::model::{self, CODES};
@@ -183,6 +184,52 @@ pub fn gaps(rng: &mut Rng) -> Case {
         _ => {}
     }
     Case::Gaps { clock, scheme, lent, marks, file: file.bytes, body: body.bytes }
+}
+
+/// A field plan that is accepted, but for odd scale fields, and its records.
+pub fn good_plan(rng: &mut Rng) -> (Case, Vec<Record>) {
+    let packet = rng.pick(&Packet::ALL);
+    let scheme = Scheme::Precip(parameter(rng));
+    let Time { days, seconds, clock } = time(rng);
+    let file = file::file(rng, scheme, days, seconds).bytes;
+    let body = body::good(rng, packet);
+    let lent = enough(rng, &body);
+    let records = plans::good(rng, body.radials, body.bins);
+    let totals = plans::fields(&records) + rng.below(3);
+    let sweep = Case::Sweep { clock, scheme, lent, file, body: body.bytes };
+    (sweep.with_plan(totals, plans::bytes(&records)), records)
+}
+
+/// A field plan: damaged more often than not, and some of the time another scheme, file, body or buffers.
+pub fn plan(rng: &mut Rng) -> Case {
+    let packet = rng.pick(&Packet::ALL);
+    let what = rng.below(24);
+    let scheme = match what {
+        0 => scheme(rng),
+        1 | 2 => fitting_scheme(rng, packet),
+        _ => Scheme::Precip(parameter(rng)),
+    };
+    let Time { days, seconds, clock } = time(rng);
+    let mut file = file::file(rng, scheme, days, seconds);
+    let mut body = body::good(rng, packet);
+    let (radials, bins) = (body.radials, body.bins);
+    let lent = if what == 3 || what < 3 && rng.one_in(4) { scant(rng, &body) } else { enough(rng, &body) };
+    match what {
+        0 if rng.one_in(2) => body::damage(rng, &mut body),
+        // a scale of -1, or a step of 0
+        1 | 2 if rng.one_in(3) => file.set(22, &[0xbf, 0x80, 0, 0]),
+        4 => spoil_file(rng, &mut file),
+        5 => body::damage(rng, &mut body),
+        _ => {}
+    }
+    let mut records = plans::good(rng, radials, bins);
+    for _ in 0..rng.pick(&[0, 1, 1, 1, 2, 2]) {
+        plans::damage(rng, &mut records, radials, bins);
+    }
+    let plan = if rng.one_in(8) { plans::damaged_bytes(rng, &records) } else { plans::bytes(&records) };
+    let fields = plans::fields(&records);
+    let totals = if rng.one_in(8) { some(rng, fields.max(1)) } else { fields + rng.below(3) };
+    Case::Plan { clock, scheme, lent, totals, file: file.bytes, body: body.bytes, plan }
 }
 
 pub fn symbology(rng: &mut Rng) -> Case {

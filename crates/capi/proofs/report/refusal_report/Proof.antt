@@ -278,6 +278,24 @@ buffer-number-requires c κs = search needs
 wholes-requires-32 : tie.Need-wholes-requires-32
 wholes-requires-32 c κs = search needs
 
+enum-known-error-33 : tie.Need-enum-known-error-33
+enum-known-error-33 c = search needs
+
+wholes-requires-33 : tie.Need-wholes-requires-33
+wholes-requires-33 c κs = search needs
+
+enum-known-error-34 : tie.Need-enum-known-error-34
+enum-known-error-34 c = search needs
+
+wholes-requires-34 : tie.Need-wholes-requires-34
+wholes-requires-34 c κs = search needs
+
+enum-known-error-35 : tie.Need-enum-known-error-35
+enum-known-error-35 c = search needs
+
+wholes-requires-35 : tie.Need-wholes-requires-35
+wholes-requires-35 c κs = search needs
+
 returns : tie.Need-returns
 returns c = told (c .wholes .ensures) (c .before .enum-told .given .1)
 
@@ -386,6 +404,15 @@ returns-35 c = told (c .wholes31 .ensures) (c .before .before .error31 .given .1
 returns-36 : tie.Need-returns-36
 returns-36 c = told (rw (c .before .buffer-number .ensures) at (c .wholes32 .ensures)) (c .before .before .before .error32 .given .1)
 
+returns-37 : tie.Need-returns-37
+returns-37 c = told (c .wholes33 .ensures) (c .before .before .error33 .given .1)
+
+returns-38 : tie.Need-returns-38
+returns-38 c = told (c .wholes34 .ensures) (c .before .before .error34 .given .1)
+
+returns-39 : tie.Need-returns-39
+returns-39 c = told (c .wholes35 .ensures) (c .before .before .error35 .given .1)
+
 pub refusal-report-spec : {M : Type 1} → statement M
 refusal-report-spec =
     tie.close
@@ -481,6 +508,12 @@ refusal-report-spec =
     enum-known-error-32
     buffer-number-requires
     wholes-requires-32
+    enum-known-error-33
+    wholes-requires-33
+    enum-known-error-34
+    wholes-requires-34
+    enum-known-error-35
+    wholes-requires-35
     returns
     returns-2
     returns-3
@@ -516,4 +549,7 @@ refusal-report-spec =
     returns-33
     returns-34
     returns-35
-    returns-36)
+    returns-36
+    returns-37
+    returns-38
+    returns-39)

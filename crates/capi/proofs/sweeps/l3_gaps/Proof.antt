@@ -1,30 +1,24 @@
-use mathlib.Core.Path.{refl, sym, ap, _∙_}
-use Rattle.capi.specs.Entries.{askedOf}
+use mathlib.Core.Path.{refl, ap, _∙_}
+use denote.Ref.{now}
+use Rattle.sweep.specs.GapSweep.{gapBuffers, gapsInto}
 use Rattle.capi.specs.Places.{sweepReport}
 use Rattle.capi.specs.Report.{reportOf}
-use Rattle.capi.proofs.Answers.{by-report, fails}
-use Rattle.capi.proofs.Reports.{none-left}
+use Rattle.capi.proofs.Answers.{by-report, failing, no-scheme, its-scheme}
 use borrow.Author.Needs.{needs}
 use Rattle.capi.proofs.sweeps.l3_gaps.Statement.{statement}
 use Rattle.capi.proofs.sweeps.l3_gaps.Tie as tie
 
-is-short-requires : tie.Need-is-short-requires
-is-short-requires c κs = search needs
-
-returns : tie.Need-returns
-returns c = let t = sym (c .before .is-short .ensures) ∙ c .if1 .taken in record { report = none-left _ t; azimuths = simp t; codes = simp t; physical = simp t; marks = simp t }
-
-scheme-of-requires : tie.Need-scheme-of-requires
-scheme-of-requires c κs = search needs
+asked-scheme-requires : tie.Need-asked-scheme-requires
+asked-scheme-requires c κs = search needs
 
 enum-known-s : tie.Need-enum-known-s
 enum-known-s c = search needs
 
-enum-told : tie.Need-enum-told
-enum-told c = search needs
+enum-known-number : tie.Need-enum-known-number
+enum-known-number c = search needs
 
-returns-2 : tie.Need-returns-2
-returns-2 c = let t = sym (c .before .before .before .before .is-short .ensures) ∙ c .before .before .before .if1 .left in let e = sym (c .before .before .scheme-of .ensures) ∙ ap askedOf (c .enum-told .given .1) in record { report = rw e (fails (simp t) refl); azimuths = rw e (simp t); codes = rw e (simp t); physical = rw e (simp t); marks = rw e (simp t) }
+returns : tie.Need-returns
+returns c = let q = no-scheme (now (c .before .before .before .before .before .before .before .before .before .before .before .before .args .ints)) (now (c .before .before .before .before .before .before .before .before .before .before .before .before .args .floats)) (c .before .before .before .before .before .before .before .before .before .before .before .before .args .scheme) (c .before .before .before .before .before .before .before .before .before .before .before .before .args .parameter) (c .before .before .before .asked-scheme .ensures) (λ scheme. gapsInto scheme (now (c .before .before .before .before .before .before .before .before .before .before .before .before .args .file)) (c .before .before .before .before .before .before .before .before .before .before .before .before .args .clock) (now (c .before .before .before .before .before .before .before .before .before .before .before .before .args .body)) (gapBuffers (now (c .before .before .before .before .before .before .before .before .before .before .before .before .args .azimuths)) (now (c .before .before .before .before .before .before .before .before .before .before .before .before .args .codes)) (now (c .before .before .before .before .before .before .before .before .before .before .before .before .args .physical)) (now (c .before .before .before .before .before .before .before .before .before .before .before .before .args .marks)))) (c .before .number .given .1) in record { report = failing _ _ q; azimuths = rw q refl; codes = rw q refl; physical = rw q refl; marks = rw q refl }
 
 read-sweep-with-gaps-requires : tie.Need-read-sweep-with-gaps-requires
 read-sweep-with-gaps-requires c κs = search needs
@@ -53,19 +47,17 @@ same-length-5 c = search needs
 same-length-6 : tie.Need-same-length-6
 same-length-6 c = search needs
 
-returns-3 : tie.Need-returns-3
-returns-3 c = let t = sym (c .before .before .before .before .before .before .before .before .before .before .before .before .before .before .before .before .before .before .before .before .before .before .before .before .before .before .is-short .ensures) ∙ c .before .before .before .before .before .before .before .before .before .before .before .before .before .before .before .before .before .before .before .before .before .before .before .before .before .if1 .left in let e = sym (c .before .before .before .before .before .before .before .before .before .before .before .before .before .before .before .before .before .before .before .before .before .before .before .before .scheme-of .ensures) ∙ ap askedOf (c .before .before .before .before .before .before .before .before .before .before .before .before .before .before .before .before .before .before .before .before .before .before .s .given .1) in let q = c .before .before .before .before .before .before .before .before .before .before .before .before .before .before .before .before .read-sweep-with-gaps .ensures in record { report = rw e (by-report (c .before .before .before .before .before .before .before .sweep-report .ensures ∙ ap (λ a. reportOf a sweepReport) (q .answered)) (c .before .before .before .before .write-report .ensures)); azimuths = rw e (simp t (q .azimuths)); codes = rw e (simp t (q .codes)); physical = rw e (simp t (q .physical)); marks = rw e (simp t (q .marks)) }
+returns-2 : tie.Need-returns-2
+returns-2 c = let q = its-scheme (now (c .before .before .before .before .before .before .before .before .before .before .before .before .before .before .before .before .before .before .before .before .before .before .before .before .before .before .before .before .before .before .before .before .before .args .ints)) (now (c .before .before .before .before .before .before .before .before .before .before .before .before .before .before .before .before .before .before .before .before .before .before .before .before .before .before .before .before .before .before .before .before .before .args .floats)) (c .before .before .before .before .before .before .before .before .before .before .before .before .before .before .before .before .before .before .before .before .before .before .before .before .before .before .before .before .before .before .before .before .before .args .scheme) (c .before .before .before .before .before .before .before .before .before .before .before .before .before .before .before .before .before .before .before .before .before .before .before .before .before .before .before .before .before .before .before .before .before .args .parameter) (c .before .before .before .before .before .before .before .before .before .before .before .before .before .before .before .before .before .before .before .before .before .before .before .before .asked-scheme .ensures) (λ scheme. gapsInto scheme (now (c .before .before .before .before .before .before .before .before .before .before .before .before .before .before .before .before .before .before .before .before .before .before .before .before .before .before .before .before .before .before .before .before .before .args .file)) (c .before .before .before .before .before .before .before .before .before .before .before .before .before .before .before .before .before .before .before .before .before .before .before .before .before .before .before .before .before .before .before .before .before .args .clock) (now (c .before .before .before .before .before .before .before .before .before .before .before .before .before .before .before .before .before .before .before .before .before .before .before .before .before .before .before .before .before .before .before .before .before .args .body)) (gapBuffers (now (c .before .before .before .before .before .before .before .before .before .before .before .before .before .before .before .before .before .before .before .before .before .before .before .before .before .before .before .before .before .before .before .before .before .args .azimuths)) (now (c .before .before .before .before .before .before .before .before .before .before .before .before .before .before .before .before .before .before .before .before .before .before .before .before .before .before .before .before .before .before .before .before .before .args .codes)) (now (c .before .before .before .before .before .before .before .before .before .before .before .before .before .before .before .before .before .before .before .before .before .before .before .before .before .before .before .before .before .before .before .before .before .args .physical)) (now (c .before .before .before .before .before .before .before .before .before .before .before .before .before .before .before .before .before .before .before .before .before .before .before .before .before .before .before .before .before .before .before .before .before .args .marks)))) (c .before .before .before .before .before .before .before .before .before .before .before .before .before .before .before .before .before .before .before .before .before .before .s .given .1) in let r = c .before .before .before .before .before .before .before .before .before .before .before .before .before .before .before .before .read-sweep-with-gaps .ensures in record { report = rw (q .0) (by-report (c .before .before .before .before .before .before .before .sweep-report .ensures ∙ ap (λ a. reportOf a sweepReport) (r .answered)) (c .before .before .before .before .write-report .ensures)); azimuths = rw (q .1) (r .azimuths); codes = rw (q .1) (r .codes); physical = rw (q .1) (r .physical); marks = rw (q .1) (r .marks) }
 
 pub l3-gaps-spec : {M : Type 1} → statement M
 l3-gaps-spec =
     tie.close
     (tie.spec
-    is-short-requires
-    returns
-    scheme-of-requires
+    asked-scheme-requires
     enum-known-s
-    enum-told
-    returns-2
+    enum-known-number
+    returns
     read-sweep-with-gaps-requires
     sweep-report-requires
     write-report-requires
@@ -75,4 +67,4 @@ l3-gaps-spec =
     same-length-4
     same-length-5
     same-length-6
-    returns-3)
+    returns-2)

@@ -35,11 +35,17 @@ slice-relend-prefix-ask-4 c = search needs
 slice-aggregate-ask-4 : tie.Need-slice-aggregate-ask-4
 slice-aggregate-ask-4 c = sym (length-take-le _ _ (omega arith))
 
+slice-relend-prefix-ask-5 : tie.Need-slice-relend-prefix-ask-5
+slice-relend-prefix-ask-5 c = search needs
+
 slice-aggregate-ask-5 : tie.Need-slice-aggregate-ask-5
-slice-aggregate-ask-5 c = search needs
+slice-aggregate-ask-5 c = sym (length-take-le _ _ (omega arith))
 
 slice-aggregate-ask-6 : tie.Need-slice-aggregate-ask-6
 slice-aggregate-ask-6 c = search needs
+
+slice-aggregate-ask-7 : tie.Need-slice-aggregate-ask-7
+slice-aggregate-ask-7 c = search needs
 
 ask-requires : tie.Need-ask-requires
 ask-requires c κs = search needs
@@ -74,6 +80,9 @@ same-length-3 c = search needs
 same-length-4 : tie.Need-same-length-4
 same-length-4 c = search needs
 
+same-length-5 : tie.Need-same-length-5
+same-length-5 c = search needs
+
 returns : tie.Need-returns
 returns c = search needs
 
@@ -91,8 +100,10 @@ answer-on-spec =
     slice-aggregate-ask-3
     slice-relend-prefix-ask-4
     slice-aggregate-ask-4
+    slice-relend-prefix-ask-5
     slice-aggregate-ask-5
     slice-aggregate-ask-6
+    slice-aggregate-ask-7
     ask-requires
     slice-aggregate-print
     slice-aggregate-print-2
@@ -104,4 +115,5 @@ answer-on-spec =
     same-length-2
     same-length-3
     same-length-4
+    same-length-5
     returns)

@@ -1,14 +1,14 @@
-use borrow.Author.Needs.{needs}
 use Prim.Native.Nat.{_-_}
 use lib.ListN.{length}
-use Rattle.replay.proofs.lent.check_ints.Statement.{statement}
-use Rattle.replay.proofs.lent.check_ints.Tie as tie
+use borrow.Author.Needs.{needs}
+use Rattle.replay.proofs.lent.check_words.Statement.{statement}
+use Rattle.replay.proofs.lent.check_words.Tie as tie
 
 abbrev Inv-loop : tie.InvT-loop
-Inv-loop ints i₀ t3 i = Unit {0}
+Inv-loop words from name i₀ i = Unit {0}
 
 abbrev μ-loop : tie.MeasureT-loop
-μ-loop ints i₀ t3 i = length ints - i
+μ-loop words from name i₀ i = length words - i
 
 loop-holds : tie.Need-loop-holds Inv-loop μ-loop
 loop-holds c = search needs
@@ -18,9 +18,6 @@ mul-if1 c = search needs
 
 shared-slice-read-if1 : tie.Need-shared-slice-read-if1 Inv-loop μ-loop
 shared-slice-read-if1 c = search needs
-
-slice-aggregate-say-touched : tie.Need-slice-aggregate-say-touched Inv-loop μ-loop
-slice-aggregate-say-touched c = search needs
 
 say-touched-requires : tie.Need-say-touched-requires Inv-loop μ-loop
 say-touched-requires c κs = search needs
@@ -40,8 +37,8 @@ loop-again c = search needs
 returns-2 : tie.Need-returns-2 Inv-loop μ-loop
 returns-2 c = search needs
 
-pub check-ints-spec : {M : Type 1} → statement M
-check-ints-spec =
+pub check-words-spec : {M : Type 1} → statement M
+check-words-spec =
     tie.close
     (tie.spec
     Inv-loop
@@ -49,7 +46,6 @@ check-ints-spec =
     loop-holds
     mul-if1
     shared-slice-read-if1
-    slice-aggregate-say-touched
     say-touched-requires
     returns
     add-i

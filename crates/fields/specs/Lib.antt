@@ -1,0 +1,7 @@
+pub mod Plan
+pub mod Totals
+pub mod Marks
+pub mod Written
+pub mod Fields
+pub mod Order
+pub mod WithTotals
