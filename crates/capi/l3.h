@@ -46,7 +46,7 @@ enum {
     L3_BINS = 8,
     L3_RANGE_SCALE = 9,   /* of packets 16 and AF1F */
     L3_HAS_SCALE = 10,    /* 1 if a scale is declared, else 0 */
-    L3_LEVELS = 11,       /* its level count */
+    L3_LEVELS = 11,       /* its level count; under precipitation how many codes are valid, 0 to 65,536 */
     L3_FLOOR = 12,        /* its floor */
     L3_CEILING = 13,      /* l3_precip alone: the ceiling, or -1 */
     L3_FIELDS = 14,       /* l3_totals alone: how many fields the plan has */

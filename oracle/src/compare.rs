@@ -289,7 +289,8 @@ impl Compare {
     pub fn random(&mut self, seed: u64, number: u64) {
         let rng = &mut Rng::new(seed, number);
         let case = match rng.below(100) {
-            0..=43 => cases::sweep(rng),
+            0..=42 => cases::sweep(rng),
+            43 => cases::level_count(rng),
             44..=48 => return drop(self.plan(&cases::plan(rng))),
             49 | 50 => return self.plan_laws(rng),
             51 => cases::date(rng),

@@ -103,6 +103,9 @@ slips! {
     OneTotalMore,
     RefusalWritesTotals,
     PlanWritesNoPicture,
+    LowCeilingHasALevel,
+    LastCodeMissed,
+    LevelCountIn16Bits,
 }
 
 /// 1 + the slip's place in `SLIPS`, or 0.
@@ -789,9 +792,9 @@ fn slipped(case: &Case, answer: Answer) -> Answer {
     if SLIP.load(Ordering::SeqCst) == 0 {
         return answer;
     }
-    let (body, lent, scheme) = match case {
+    let (body, lent, scaled) = match case {
         Case::Gaps { .. } => return slipped_gaps(case, answer),
-        Case::Sweep { body, lent, scheme, .. } => (body, Some(*lent), Some(*scheme)),
+        Case::Sweep { body, lent, scheme, file, .. } => (body, Some(*lent), Some((*scheme, file))),
         Case::Sym { body } => (body, None, None),
         _ => return answer,
     };
@@ -805,7 +808,9 @@ fn slipped(case: &Case, answer: Answer) -> Answer {
         }
         Answer::Sweep(mut s) => {
             slip_picture(&mut s.picture);
-            slip_values(&mut s, scheme.unwrap());
+            let (scheme, file) = scaled.unwrap();
+            slip_values(&mut s, scheme);
+            slip_count(&mut s, scheme, file);
             Answer::Sweep(s)
         }
         refused => refused,
@@ -905,12 +910,20 @@ fn slip_picture(p: &mut Picture) {
     }
 }
 
+/// The level count of the precipitation family.
+fn slip_count(s: &mut Sweep, scheme: Scheme, file: &[u8]) {
+    let (Scheme::Precip(_), Some(scale)) = (scheme, &mut s.scale) else { return };
+    let (_, ceiling) = model::valid_codes(file, model::header_place(file).unwrap() + 18);
+    scale.levels = match scale.levels {
+        levels if slips(LevelCountOff) => levels + 1,
+        levels if slips(LowCeilingHasALevel) => levels.max(1),
+        levels if slips(LastCodeMissed) => levels - ceiling.is_none() as u32,
+        levels if slips(LevelCountIn16Bits) => levels.min(65_535),
+        levels => levels,
+    };
+}
+
 fn slip_values(s: &mut Sweep, scheme: Scheme) {
-    if slips(LevelCountOff) && matches!(scheme, Scheme::Precip(_)) {
-        if let Some(scale) = &mut s.scale {
-            scale.levels = scale.levels.saturating_add(1);
-        }
-    }
     if let (Some(scale), true) = (s.scale, slips(ProductRoundedApart)) {
         for (x, code) in s.physical.iter_mut().zip(&s.picture.codes) {
             if !x.is_nan() {

@@ -1,7 +1,7 @@
 //! Document 01's sentences once more, worked out here without the Rust and without the port: where the token, the message
 //! header and the fields stand, what a code's physical value is, where a body's radials stand, which of its bytes are data or
-//! unread, and what row a radial's data make or that they make none; and of document 02 the centres, the gaps, the dates
-//! and, in plans.rs, the field plans.
+//! unread, and what row a radial's data make or that they make none; and of document 02 the centres, the gaps, the dates,
+//! the count of levels and, in plans.rs, the field plans.
 use lines::{Date, Packet, Refusal, Scheme, Sweep};
 use std::ops::Range;
 
@@ -86,8 +86,19 @@ pub fn valid_codes(file: &[u8], block: usize) -> (u16, Option<u16>) {
     }
 }
 
+/// Whether a code is from the floor up to the ceiling, if there is one.
+pub fn is_valid(code: u16, (floor, ceiling): (u16, Option<u16>)) -> bool {
+    code >= floor && ceiling.is_none_or(|c| code <= c)
+}
+
+/// Document 02, M-105: how many codes from 0 to 65,535 are valid.
+pub fn level_count(file: &[u8], block: usize) -> u32 {
+    let bounds = valid_codes(file, block);
+    (0..=u16::MAX).map(|code| u32::from(is_valid(code, bounds))).sum()
+}
+
 fn linear(code: u16, floor: u16, ceiling: Option<u16>, minimum: f32, step: f32) -> f32 {
-    if code < floor || ceiling.is_some_and(|c| code > c) {
+    if !is_valid(code, (floor, ceiling)) {
         return f32::NAN;
     }
     minimum + (code - floor) as f32 * step

@@ -53,8 +53,13 @@ fn planned(case: Case, totals: usize, plan: &[u8]) -> Answer {
     }
 }
 
-/// M-100: the centres of packets 16 and AF1F are wrapped, which the Rust's are not.
+/// M-100: the centres of packets 16 and AF1F are wrapped, which the Rust's are not. M-105: the level count of the precipitation family
+/// is the number of valid codes.
 pub fn altered(case: &Case, mut answer: Answer) -> Answer {
+    if let (Case::Sweep { scheme: Scheme::Precip(_), file, .. }, Answer::Sweep(sweep)) = (case, &mut answer) {
+        let block = model::header_place(file).expect("an accepted file has a header") + 18;
+        sweep.scale.as_mut().expect("a declared scale").levels = model::level_count(file, block);
+    }
     let (Case::Sweep { body, .. } | Case::Sym { body }) = case else { return answer };
     let picture = match &mut answer {
         Answer::Sweep(sweep) => &mut sweep.picture,

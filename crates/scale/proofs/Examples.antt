@@ -1,14 +1,14 @@
 -- Worked examples, computed from the definitions: lines P11 and P12 of document 01, the ranges that the Rust's comments give, and floats
 -- at the edges. Assumes nothing.
 use mathlib.Core.Path.{_≡_, refl, sym, _∙_}
-use mathlib.Core.Bool.{Bool, true, false, cond}
+use mathlib.Core.Bool.{Bool, true, false}
 use mathlib.Core.List.{[], _∷_}
 use Prim.Native.Nat.{ℕ, _<_}
 use native.Mathlib.Omega.{arith}
-use lib.Dec.{ltb}
+use lib.Dec.{leb}
 use lib.IntN.{negsuc}
 use lib.Ieee.{Float, binary32, nan, inf, fin, neg, add, sub, mul, div, eq, le, ofInt, ofBits}
-use borrow.Author.Tests.{ltb-false, lt-ltb}
+use borrow.Author.Tests.{leb-true, lt-leb}
 use Rattle.bytes.specs.Float.{f32}
 use Rattle.bytes.specs.Refusal.{kind, float}
 use Rattle.bytes.specs.Result.{accepted, refused}
@@ -16,8 +16,8 @@ use Rattle.scale.specs.declared.scaling.Ceiling.the-variants.{At, Absent
 use Rattle.scale.specs.declared.physical.Scaling.the-variants.{Linear, Precip}
 use Rattle.scale.specs.declared.physical.Declared.the-variants as Declared
 use Rattle.scale.specs.Legacy.{scaleOf, legacyLevel}
-use Rattle.scale.specs.Physical.{cappedValue, openValue, precipValue, valueOf, declaredScale}
-use Rattle.scale.specs.Scaling.{usable, floorOf, ceilingOf, linearFloat, scaled, levelCount, linearDeclared}
+use Rattle.scale.specs.Physical.{cappedValue, precipValue, valueOf, declaredScale}
+use Rattle.scale.specs.Scaling.{usable, floorOf, ceilingOf, linearFloat, scaled, count, levelCount, linearDeclared}
 
 -- leading 9: floor 1, and no ceiling
 pub leading-9 : (floorOf 255 9 0 ≡ 1) × (ceilingOf 255 9 0 ≡ Absent)
@@ -69,8 +69,9 @@ negative = refl
 
 -- a factor that is a NaN: the step, the minimum and each value are NaN, and nothing is refused
 pub factor-nan :
-    declaredScale (Precip (scaled (f32 10 1) (f32 0 1) nan 1 Absent)) ≡ accepted (Declared.Scale (record { «value_min» = nan; «value_increment» = nan; «n_levels» = 65534; «data_floor_code» = 1 }))
-unfolding declaredScale add mul div neg ofInt f32
+    declaredScale (Precip (scaled (f32 10 1) (f32 0 1) nan 1 Absent))
+    ≡ accepted (Declared.Scale (record { «value_min» = nan; «value_increment» = nan; «n_levels» = 65535; «data_floor_code» = 1 }))
+unfolding declaredScale levelCount count add mul div neg ofInt f32
 factor-nan = refl
 
 pub factor-nan-value : precipValue (scaled (f32 10 1) (f32 0 1) nan 1 Absent) 5 ≡ nan
@@ -79,19 +80,25 @@ factor-nan-value = refl
 
 -- ---- precipitation's codes
 
--- a ceiling under the floor: one level is declared, and no code is valid
-pub one-level : levelCount 5 (At 3) ≡ 1
-one-level = refl
+-- a ceiling under the floor: no code is valid, and the count is 0
+pub no-level : levelCount 5 (At 3) ≡ 0
+unfolding levelCount count
+no-level = refl
 
 pub no-code : (m step : Float) (floor top code : ℕ) → top < floor → cappedValue m step floor top code ≡ nan
-no-code m step floor top code h = go (ltb top code) refl
+no-code m step floor top code h = go (leb floor code) refl
   where
-    go : (b : Bool) → ltb top code ≡ b → cond b nan (openValue m step floor code) ≡ nan
-    go true u = refl
-    go false u = let k : code < floor = omega (arith, ltb-false top code u) in simp (lt-ltb code floor k)
+    go : (b : Bool) → leb floor code ≡ b → cappedValue m step floor top code ≡ nan
+    go true u = let k : top < code = omega (arith, leb-true floor code u) in rw (u, lt-leb code top k)
+    go false u = rw u
 
--- floor 0 and ceiling 65,535: the count stops at 65,535
-pub all-codes : levelCount 0 (At 65535) ≡ 65535
+-- without a ceiling the last code counts; floor 0 and ceiling 65,535: all codes
+pub open-codes : levelCount 1 Absent ≡ 65535
+unfolding levelCount count
+open-codes = refl
+
+pub all-codes : levelCount 0 (At 65535) ≡ 65536
+unfolding levelCount count
 all-codes = refl
 
 -- hundredth beats tenth, and tenth beats twentieth

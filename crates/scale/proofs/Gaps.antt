@@ -18,6 +18,7 @@ use lib.Ieee.Exact.{HasValue, round-exact}
 use lib.Ieee.Back.{round-whole, whole-unique}
 use Rattle.bytes.specs.Float.{f32, whole32, _⊕_, _⊖_, _⊗_, _⊘_}
 use Rattle.scale.specs.Physical.{openValue, cappedValue, classValue}
+use Rattle.scale.proofs.Valid.{open-choice, capped-choice}
 
 -- a value whose fraction is a whole number has that number
 whole-of : (x : Float) (num den n : ℕ) → 0 < den → num ≡ n * den → HasValue x false num den → HasValue x false n 1
@@ -192,7 +193,7 @@ nan-line m step = plus-nan m
 
 module _ (m step : Float) (floor code : ℕ) {s : Float} (e : s ≡ cond (ltb code floor) nan (whole32 (pos (code - floor)))) where
   pub open-is : m ⊕ s ⊗ step ≡ openValue m step floor code
-  open-is = ap (λ (x : Float). m ⊕ x ⊗ step) e ∙ go (ltb code floor)
+  open-is = ap (λ (x : Float). m ⊕ x ⊗ step) e ∙ go (ltb code floor) ∙ sym (open-choice floor code _ nan)
     where
       go : (b : Bool) → m ⊕ cond b nan (whole32 (pos (code - floor))) ⊗ step ≡ cond b nan (m ⊕ whole32 (pos (code - floor)) ⊗ step)
       go true = nan-line m step
@@ -200,7 +201,7 @@ module _ (m step : Float) (floor code : ℕ) {s : Float} (e : s ≡ cond (ltb co
 
   pub capped-is : (top : ℕ) {g : Float} → code < 65536 → g ≡ cond (ltb top code) nan (f32 0 1) → m ⊕ (s ⊕ g) ⊗ step ≡ cappedValue m step floor top code
   unfolding add
-  capped-is top {g} small w = ap (λ (x : Float). m ⊕ (s ⊕ x) ⊗ step) w ∙ go (ltb top code)
+  capped-is top {g} small w = ap (λ (x : Float). m ⊕ (s ⊕ x) ⊗ step) w ∙ go (ltb top code) ∙ sym (capped-choice floor top code _ nan)
     where
       kept : (b : Bool) → s ≡ cond b nan (whole32 (pos (code - floor))) → s ⊕ f32 0 1 ≡ s
       kept true t = ap (λ (x : Float). x ⊕ f32 0 1) t ∙ sym t

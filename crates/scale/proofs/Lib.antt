@@ -1,3 +1,4 @@
+pub mod Valid
 pub mod Finite
 pub mod Gaps
 pub mod Mapped
@@ -6,4 +7,3 @@ pub mod Copied
 pub mod Filling
 pub mod Examples
 pub mod Thresholds
-pub mod Valid

@@ -19,7 +19,7 @@ use Rattle.scale.specs.declared.physical.Scaling.{Scaling}
 use Rattle.scale.specs.declared.physical.Scaling.the-variants as Scaling
 use Rattle.scale.specs.declared.physical.Declared.{Declared}
 use Rattle.scale.specs.declared.physical.Declared.the-variants as Declared
-use Rattle.scale.specs.Scaling.{linearDeclared, precipDeclared}
+use Rattle.scale.specs.Scaling.{valid, linearDeclared, precipDeclared}
 use Rattle.scale.specs.Legacy.{levelAt}
 use Rattle.scale.specs.Pdb.{valueScalingLinearHw, valueScalingFloat, precipFamilyScale, thresholdPlace}
 
@@ -38,20 +38,20 @@ declaredScale (Scaling.Precip p) = accepted (Declared.Scale (precipDeclared p))
 declaredScale (Scaling.Legacy k post) = accepted Declared.Absent
 declaredScale Scaling.Class = accepted Declared.Absent
 
--- linear from the floor on, and from the floor to the top
+-- linear where the code is valid, and NaN where it is not
+abbrev pub valueIn : Float → Float → ℕ → Ceiling → ℕ → Float
+valueIn m step floor ceiling code = cond (valid floor ceiling code) (m ⊕ whole32 (pos (code - floor)) ⊗ step) nan
+
+-- from the floor on, and from the floor to the top
 abbrev pub openValue : Float → Float → ℕ → ℕ → Float
-openValue m step floor code = cond (ltb code floor) nan (m ⊕ whole32 (pos (code - floor)) ⊗ step)
+openValue m step floor = valueIn m step floor Ceiling.Absent
 
 abbrev pub cappedValue : Float → Float → ℕ → ℕ → ℕ → Float
-cappedValue m step floor top code = cond (ltb top code) nan (openValue m step floor code)
+cappedValue m step floor top = valueIn m step floor (Ceiling.At top)
 
--- precipitation: below the floor or above the ceiling NaN
-abbrev pub underCeiling : Ceiling → Float → Float → ℕ → ℕ → Float
-underCeiling (Ceiling.At top) m step floor = cappedValue m step floor top
-underCeiling Ceiling.Absent m step floor = openValue m step floor
-
+-- precipitation
 abbrev pub precipValue : PrecipScale → ℕ → Float
-precipValue p = underCeiling (p .ceiling) (p .«value_min») (p .«value_increment») (p .floor)
+precipValue p = valueIn (p .«value_min») (p .«value_increment») (p .floor) (p .ceiling)
 
 -- class: 0 is NaN
 abbrev pub classValue : ℕ → Float

@@ -1,5 +1,5 @@
 -- pdb.rs and mod.rs: scales out of numbers, and the scale that a product declares. Each float operation rounds once, in the written order.
-use Prim.Native.Nat.{ℕ, _+_, _-_, min}
+use Prim.Native.Nat.{ℕ, zero, suc, _+_, _-_}
 use mathlib.Core.List.{[], _∷_}
 use mathlib.Core.Bool.{Bool, not, _&&_, cond}
 use lib.IntN.{ℤ, pos}
@@ -39,7 +39,7 @@ floorOf largest leading trailing = cond (plausible largest leading trailing) lea
 abbrev pub ceilingOf : ℕ → ℕ → ℕ → Ceiling
 ceilingOf largest leading trailing = cond (plausible largest leading trailing) (At (largest - trailing)) Absent
 
--- a code is valid from the floor up to the ceiling, where there is one
+-- a code is valid from the floor up to the ceiling, where there is one: it has a value, counts in totals and is a level
 abbrev pub valid : ℕ → Ceiling → ℕ → Bool
 valid floor (At top) code = leb floor code && leb code top
 valid floor Absent code = leb floor code
@@ -53,10 +53,14 @@ scaled scale offset factor floor ceiling = record {
   ceiling = ceiling;
 }
 
--- the level count of the precipitation family
-abbrev pub levelCount : ℕ → Ceiling → ℕ
-levelCount floor (At top) = min 65535 (top - floor + 1)
-levelCount floor Absent = 65535 - floor
+-- how many of the first n codes, 0 to n - 1, pass a test
+unfoldable pub count : (ℕ → Bool) → ℕ → ℕ
+count p zero = 0
+count p (suc n) = count p n + cond (p n) 1 0
+
+-- the level count of the precipitation family: how many of the codes 0 to 65,535 are valid
+unfoldable pub levelCount : ℕ → Ceiling → ℕ
+levelCount floor ceiling = count (valid floor ceiling) 65536
 
 -- halfword and float: floor 2; 9 where the step is at or below 0, which a NaN is not
 abbrev pub linearDeclared : LinearScale → Result DeclaredLinearScale

@@ -31,7 +31,7 @@ pub struct PrecipScale {
 pub struct DeclaredLinearScale {
     pub value_min: f32,
     pub value_increment: f32,
-    pub n_levels: u16,
+    pub n_levels: u32,
     pub data_floor_code: u8,
 }
 
@@ -125,16 +125,19 @@ pub fn scaled_by(scale: f32, offset: f32, factor: f32, floor: u8, ceiling: Ceili
     }
 }
 
-// How many levels the precipitation family declares.
-pub fn level_count(floor: u8, ceiling: Ceiling) -> u16
+// How many levels the precipitation family declares: the valid codes.
+pub fn level_count(floor: u8, ceiling: Ceiling) -> u32
     ensures { λ r. ⌜ r ≡ levelCount floor ceiling ⌝ }
 {
     match ceiling {
         Ceiling::At(top) => {
-            let span = minus(top, floor as u16);
-            if span == 65535 { 65535 } else { span + 1 }
+            if top < floor as u16 {
+                0
+            } else {
+                top as u32 - floor as u32 + 1
+            }
         }
-        Ceiling::Absent => 65535 - floor as u16,
+        Ceiling::Absent => 65536 - floor as u32,
     }
 }
 
@@ -146,10 +149,11 @@ pub fn linear_declared_scale(s: LinearScale) -> LinearDeclaredRead
     if step <= 0.0 {
         return LinearDeclaredRead::Refused(Level3DecodeError::NonPositiveIncrement(step));
     }
+    let levels = s.n_levels as u32;
     LinearDeclaredRead::Value(DeclaredLinearScale {
         value_min: s.value_min,
         value_increment: step,
-        n_levels: s.n_levels,
+        n_levels: levels,
         data_floor_code: 2,
     })
 }

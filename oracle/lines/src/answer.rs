@@ -96,7 +96,7 @@ pub struct Fields {
 pub struct Scale {
     pub minimum: f32,
     pub step: f32,
-    pub levels: u16,
+    pub levels: u32,
     pub floor: u8,
 }
 

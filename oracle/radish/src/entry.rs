@@ -235,7 +235,7 @@ fn sweep(r: Reading) -> Sweep {
         scale: r.scale.map(|s| Scale {
             minimum: s.value_min,
             step: s.value_increment,
-            levels: s.n_levels,
+            levels: s.n_levels.into(),
             floor: s.data_floor_code,
         }),
         picture: picture(r.packet, r.codes),

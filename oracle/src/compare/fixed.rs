@@ -1,6 +1,7 @@
 //! The cases that every run has: short inputs and day numbers exhaustively, every length of small files and bodies, every byte of
 //! them, rows of every length up to 200 cells, radials of every mix of lengths, gaps in all of these, the places outside the Rust's
 //! domain, the caps, and the two grid sizes.
+use super::plans::{with_flags, PRECIP};
 use super::Compare;
 use crate::make::body::{self, Body};
 use crate::make::{cases, file, Rng};
@@ -59,6 +60,7 @@ impl Compare {
         self.every_width(seed);
         self.gaps_fixed(seed);
         self.plans_fixed(seed);
+        self.level_counts(seed);
         self.mixed_radials(seed);
         self.every_centre(seed);
         self.caps(seed);
@@ -244,6 +246,38 @@ impl Compare {
         }
         for block in usize::MAX - file.len()..=usize::MAX {
             self.table(&Case::Thr { file: file.clone(), block }, Answer::Refused(Refusal::new(3, &[22])));
+        }
+    }
+
+    /// M-105: floors and ceilings at and around every place at which the Rust's count of levels is another; and between the port's own
+    /// entries, the count is the number of codes from 0 to 65,535 that `l3_physical` gives a value.
+    fn level_counts(&mut self, seed: u64) {
+        let rng = &mut Rng::new(seed, u64::MAX / 29);
+        let all: Vec<u16> = (0..=u16::MAX).collect();
+        let largest = (0..=12).chain([255, 256, 0x7fff, 0x8000]).chain(0xfff6..=0xffff);
+        let odd = [0, 1, 2, 7, 8, 9, 0xffff];
+        for flags in largest.flat_map(|l: u16| odd.into_iter().flat_map(move |a| odd.map(|b| [l, a, b]))) {
+            let file = with_flags(plain_file(rng, PRECIP), flags);
+            for packet in Packet::ALL {
+                let body = body::of_size(rng, packet, 1, 1).bytes;
+                let case = whole(PRECIP, &file, body);
+                let (_, port) = self.both(&case);
+                if packet == Packet::P16 {
+                    let block = self.port.block(&file);
+                    let values = self.port.values(&file, block, PRECIP, &all, all.len()).unwrap_or_default();
+                    let valued = values.iter().filter(|x| !x.is_nan()).count();
+                    let given = match &port {
+                        Answer::Sweep(sweep) => sweep.scale.map(|scale| scale.levels as usize),
+                        _ => None,
+                    };
+                    let what =
+                        format!("{valued} codes have a value, and the level count is {given:?}: {}", case.line("count"));
+                    let fault = self.port.take_fault();
+                    self.promise(&what, given == Some(valued) && fault.is_none());
+                    self.counts.accepted += 1;
+                    *self.counts.kinds.entry("counts").or_default() += 1;
+                }
+            }
         }
     }
 

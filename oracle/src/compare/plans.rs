@@ -10,7 +10,7 @@ use lines::{Answer, Case, Lent, Packet, Refusal, Scheme, Sweep};
 use std::ops::Range;
 use Record::{Field, Raw, Strip};
 
-const PRECIP: Scheme = Scheme::Precip(0.254);
+pub(super) const PRECIP: Scheme = Scheme::Precip(0.254);
 
 impl Compare {
     /// A field plan, and what must hold between it and the port's ordinary reading of the same input: the picture is the sweep's, and
@@ -358,7 +358,7 @@ fn row_of(rng: &mut Rng, packet: Packet, codes: &[u16]) -> Vec<u8> {
 }
 
 /// A file with other fields 27, 28 and 29: largest, leading, trailing.
-fn with_flags(mut file: Vec<u8>, flags: [u16; 3]) -> Vec<u8> {
+pub(super) fn with_flags(mut file: Vec<u8>, flags: [u16; 3]) -> Vec<u8> {
     let at = model::header_place(&file).unwrap() + 18 + 52;
     file[at..at + 6].copy_from_slice(&flags.map(u16::to_be_bytes).concat());
     file

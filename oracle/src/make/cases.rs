@@ -232,6 +232,24 @@ pub fn plan(rng: &mut Rng) -> Case {
     Case::Plan { clock, scheme, lent, totals, file: file.bytes, body: body.bytes, plan }
 }
 
+/// A precipitation sweep whose floor and ceiling are at or around a place at which the Rust's level count is another.
+pub fn level_count(rng: &mut Rng) -> Case {
+    let packet = rng.pick(&Packet::ALL);
+    let scheme = Scheme::Precip(parameter(rng));
+    let Time { days, seconds, clock } = time(rng);
+    let mut file = file::file(rng, scheme, days, seconds);
+    let flags: [u16; 3] = match rng.below(4) {
+        0 => [0xffff, 0, 0],
+        1 => [0xffff - rng.below(3) as u16, rng.below(3) as u16, rng.below(3) as u16],
+        2 => [rng.below(10) as u16, rng.below(10) as u16, rng.below(3) as u16],
+        _ => [rng.pick(&[0, 255]), rng.below(11) as u16, rng.below(11) as u16],
+    };
+    file.set(27, &flags.map(u16::to_be_bytes).concat());
+    let body = body::good(rng, packet);
+    let lent = enough(rng, &body);
+    Case::Sweep { clock, scheme, lent, file: file.bytes, body: body.bytes }
+}
+
 pub fn symbology(rng: &mut Rng) -> Case {
     let packet = rng.pick(&Packet::ALL);
     let mut body = body::good(rng, packet);

@@ -1,5 +1,5 @@
 //! Document 02, M-104: the records of a field plan, what is refused of them, and the totals.
-use super::u16_at;
+use super::{is_valid, u16_at};
 use lines::{Picture, Refusal};
 use std::collections::HashSet;
 
@@ -68,16 +68,15 @@ fn inside(fields: &[Field], radials: usize, bins: usize) -> Result<(), Refusal> 
 
 /// A total for each field of a plan over an accepted picture, given the floor and the ceiling: the sum over its strips' cells of
 /// weight × (code - floor), of the valid codes alone.
-pub fn totals(plan: &[u8], picture: &Picture, (floor, ceiling): (u16, Option<u16>)) -> Result<Vec<u64>, Refusal> {
+pub fn totals(plan: &[u8], picture: &Picture, bounds: (u16, Option<u16>)) -> Result<Vec<u64>, Refusal> {
     let fields = fields(plan)?;
     distinct(&fields)?;
     inside(&fields, picture.radials, picture.bins)?;
-    let valid = |code: u16| code >= floor && ceiling.is_none_or(|c| code <= c);
     let total = |field: &Field| {
         let strips = field.strips.iter().map(|strip| {
             let from = strip.radial * picture.bins + strip.first;
-            let cells = picture.codes[from..from + strip.count].iter().filter(|code| valid(**code));
-            cells.map(|code| strip.weight as u128 * u128::from(code - floor)).sum::<u128>()
+            let cells = picture.codes[from..from + strip.count].iter().filter(|code| is_valid(**code, bounds));
+            cells.map(|code| strip.weight as u128 * u128::from(code - bounds.0)).sum::<u128>()
         });
         u64::try_from(strips.sum::<u128>()).expect("64 bits hold a total")
     };
