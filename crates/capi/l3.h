@@ -7,7 +7,7 @@
  *
  * What is returned:
  *   0        accepted (l3_known: 1 for a known code, else 0)
- *   1 to 39  refused; the number is the one of the README's table
+ *   1 to 41  refused; the number is the one of the README's table
  *   100      L3_SHORT_REPORT: ints has fewer than 16 places, or floats fewer than 8
  *   101      L3_BAD_ARGUMENT: an argument that the function does not take: an unknown scheme, kind or item, an array of a length that is
  *            not the one asked for
@@ -69,6 +69,9 @@ enum {
 
 /* Places of ints of l3_date. */
 enum { L3_YEAR = 0, L3_MONTH = 1, L3_DAY = 2 };
+
+/* Places of ints of l3_charge. */
+enum { L3_CHARGE = 0, L3_REMAINDER = 1 };
 
 enum { L3_PACKET_16 = 16, L3_PACKET_28 = 28, L3_PACKET_AF1F = 44831 };
 
@@ -209,6 +212,13 @@ uint32_t l3_items(uint32_t item, const uint8_t *payload, size_t payload_len, int
 /* A big-endian number at an offset. kind: 0 u16, 1 i16, 2 i32. ints[0]: 1 if its bytes are there, else 0; ints[1]: the number. */
 uint32_t l3_read(uint32_t kind, const uint8_t *bytes, size_t bytes_len, size_t offset, int64_t *ints, size_t ints_len,
                  double *floats, size_t floats_len);
+
+/* The charge of a total by tariff: ends has the upper ends of its bands, rates their rates in cents per 1,000 units of total.
+ * ints[L3_CHARGE]: the charge in cents, rounded down once; ints[L3_REMAINDER]: what that leaves, 0 to 999 thousandths of a cent. Refused
+ * with 40: other than 1 to 8 bands, ends_len and rates_len that differ, ends that do not ascend strictly, a last end below 2^40, a rate
+ * above 65,535; then with 41 a total above 2^40. */
+uint32_t l3_charge(uint64_t total, const uint64_t *ends, size_t ends_len, const uint32_t *rates, size_t rates_len,
+                   int64_t *ints, size_t ints_len, double *floats, size_t floats_len);
 
 #ifdef __cplusplus
 }

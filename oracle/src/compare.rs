@@ -8,6 +8,7 @@ use crate::wanted;
 use lines::{same_f32, Answer, Case, Lent, Packet, Refusal, Scheme, Sweep, NAMES};
 use std::collections::BTreeMap;
 
+mod charges;
 mod fixed;
 mod plans;
 
@@ -35,6 +36,8 @@ pub struct Counts {
     pub plans: [[Split; 5]; 3],
     /// Accepted plans with a strip cut in two, with a strip moved, with another code in a cell.
     pub plan_laws: [u64; 3],
+    /// Charges beside that of a larger total, and beside those with one rate altered.
+    pub charge_laws: [u64; 2],
     /// Second bodies of demand 3.
     pub damaged: [[Split; 5]; 3],
 }
@@ -289,7 +292,9 @@ impl Compare {
     pub fn random(&mut self, seed: u64, number: u64) {
         let rng = &mut Rng::new(seed, number);
         let case = match rng.below(100) {
-            0..=42 => cases::sweep(rng),
+            0..=40 => cases::sweep(rng),
+            41 => cases::charge(rng),
+            42 => return self.charge_laws(rng),
             43 => cases::level_count(rng),
             44..=48 => return drop(self.plan(&cases::plan(rng))),
             49 | 50 => return self.plan_laws(rng),
@@ -434,6 +439,8 @@ impl Counts {
         print_table("field plans by packet and scheme, accepted / refused:", &self.plans);
         let [cut, moved, code] = self.plan_laws;
         println!("  held to another: a strip cut in two {cut}, a strip moved {moved}, another code in a cell {code}");
+        let [larger, rates] = self.charge_laws;
+        println!("charges held to another: a larger total {larger}, each rate altered {rates}");
         print_table("damaged bodies (demand 3), accepted / refused:", &self.damaged);
         let missing = self.missing();
         if !missing.is_empty() {

@@ -8,6 +8,7 @@ use lines::{
 use std::slice::{from_raw_parts, from_raw_parts_mut};
 use std::sync::atomic::{AtomicUsize, Ordering};
 
+mod charges;
 mod plans;
 
 macro_rules! slips {
@@ -106,6 +107,24 @@ slips! {
     LowCeilingHasALevel,
     LastCodeMissed,
     LevelCountIn16Bits,
+    EachBandRounded,
+    RoundedToNearest,
+    RemainderDropped,
+    ChargeIn32Bits,
+    WholeTotalByItsBand,
+    EndInNextBand,
+    EqualEndsPass,
+    FirstEndsAloneCompared,
+    FirstEnd0Refused,
+    LastEndAbove2To40,
+    LowLastEndPasses,
+    NoBandsPass,
+    NineBandsPass,
+    ShorterListTaken,
+    RatesUnbounded,
+    RatesIn16Bits,
+    TotalAt2To40Refused,
+    TooLargeBeforeMalformed,
 }
 
 /// 1 + the slip's place in `SLIPS`, or 0.
@@ -144,6 +163,7 @@ pub fn entries() -> Entries {
         codes,
         xdr,
         items,
+        charge,
         read,
     }
 }
@@ -760,6 +780,28 @@ unsafe extern "C" fn items(
             0
         }
         Err(r) => report.refuse(&r),
+    }
+}
+
+unsafe extern "C" fn charge(
+    total: u64,
+    ends: *const u64,
+    ends_len: usize,
+    rates: *const u32,
+    rates_len: usize,
+    ints: *mut i64,
+    ints_len: usize,
+    floats: *mut f64,
+    floats_len: usize,
+) -> u32 {
+    let Some(mut report) = report(ints, ints_len, floats, floats_len) else { return SHORT_REPORT };
+    match charges::read(total, from_raw_parts(ends, ends_len), from_raw_parts(rates, rates_len)) {
+        Answer::Refused(r) => report.refuse(&r),
+        Answer::Charge { charge, remainder } => {
+            report.ints[..2].copy_from_slice(&[charge as i64, remainder as i64]);
+            0
+        }
+        _ => unreachable!(),
     }
 }
 

@@ -1,8 +1,8 @@
 //! Document 01's sentences once more, worked out here without the Rust and without the port: where the token, the message
 //! header and the fields stand, what a code's physical value is, where a body's radials stand, which of its bytes are data or
 //! unread, and what row a radial's data make or that they make none; and of document 02 the centres, the gaps, the dates,
-//! the count of levels and, in plans.rs, the field plans.
-use lines::{Date, Packet, Refusal, Scheme, Sweep};
+//! the count of levels, the charges and, in plans.rs, the field plans.
+use lines::{Answer, Date, Packet, Refusal, Scheme, Sweep};
 use std::ops::Range;
 
 pub mod plans;
@@ -342,4 +342,24 @@ pub fn date(days: u16) -> Result<Date, Refusal> {
         (year, month) = if month == 12 { (year + 1, 1) } else { (year, month + 1) };
     }
     Ok(Date { year, month, day: day as u8 })
+}
+
+/// Document 02, M-106: the charge for a total and its remainder: the part of the total inside each band times its rate, added, divided
+/// by 1,000 once. A band reaches from the end before it, the first from 0.
+pub fn charge(total: u64, ends: &[u64], rates: &[u32]) -> Result<Answer, Refusal> {
+    let well_formed = (1..=8).contains(&ends.len())
+        && rates.len() == ends.len()
+        && ends.is_sorted_by(|end, next| end < next)
+        && ends.last().is_some_and(|last| *last >= 1 << 40)
+        && rates.iter().all(|rate| *rate <= 65_535);
+    if !well_formed {
+        return Err(Refusal::new(40, &[]));
+    }
+    if total > 1 << 40 {
+        return Err(Refusal::new(41, &[]));
+    }
+    let starts = [0].iter().chain(ends);
+    let parts = starts.zip(ends).map(|(start, end)| u128::from(total.clamp(*start, *end) - start));
+    let sum: u128 = parts.zip(rates).map(|(part, rate)| part * u128::from(*rate)).sum();
+    Ok(Answer::Charge { charge: sum / 1000, remainder: sum % 1000 })
 }

@@ -19,6 +19,7 @@
 //! | l3_precip | 12 floor, 13 ceiling or -1 | 6, 7 minimum, step |
 //! | l3_xdr, l3_items | 0 value, or 0 start and 1 length; 15 the position after the read, also on a refusal (item 7: 0 the bytes left, no position) | 0 value |
 //! | l3_read | 0 whether the number is there, 1 the number | |
+//! | l3_charge | 0 charge, 1 remainder | |
 use crate::fence::Fence;
 use lines::{
     Answer, Case, Date, Each, FieldKind, Fields, Geometry, Item, Lent, Packet, Picture, Refusal, Scale, Scheme, Sweep,
@@ -116,6 +117,10 @@ entries! {
     );
     items: l3_items(
         item: u32, payload: *const u8, payload_len: usize,
+        ints: *mut i64, ints_len: usize, floats: *mut f64, floats_len: usize,
+    );
+    charge: l3_charge(
+        total: u64, ends: *const u64, ends_len: usize, rates: *const u32, rates_len: usize,
         ints: *mut i64, ints_len: usize, floats: *mut f64, floats_len: usize,
     );
     read: l3_read(
@@ -297,6 +302,7 @@ impl Port {
             Case::Xdr { ops, payload } => self.xdr(ops, payload),
             Case::Each { payload } => self.each(payload),
             Case::Read { bytes, offset, kind } => self.read(bytes, *offset, *kind),
+            Case::Charge { total, ends, rates } => self.charge(*total, ends, rates),
         };
         Outcome { answer, place: self.place.take(), fault: self.fault.take() }
     }
@@ -455,6 +461,7 @@ impl Port {
                 ("l3_xdr", (e.xdr)(0, bytes, 6, 0, i, ints, f, floats)),
                 ("l3_items", (e.items)(0, bytes, 6, i, ints, f, floats)),
                 ("l3_read", (e.read)(0, bytes, 6, 0, i, ints, f, floats)),
+                ("l3_charge", (e.charge)(7, [1 << 40].as_ptr(), 1, [5].as_ptr(), 1, i, ints, f, floats)),
             ]
         };
         [&sweeps[..], &others].concat()
@@ -688,6 +695,20 @@ impl Port {
                     Answer::Accepted
                 }
             },
+        )
+    }
+
+    fn charge(&mut self, total: u64, ends: &[u64], rates: &[u32]) -> Answer {
+        let end_bytes: Vec<u8> = ends.iter().flat_map(|n| n.to_ne_bytes()).collect();
+        let rate_bytes: Vec<u8> = rates.iter().flat_map(|n| n.to_ne_bytes()).collect();
+        let rates_at = self.body.place(&rate_bytes) as *const u32;
+        let entry = self.entries.charge;
+        self.small(
+            &end_bytes,
+            |ends_at, _, i, fl| unsafe {
+                entry(total, ends_at as *const u64, ends.len(), rates_at, rates.len(), i, INTS, fl, FLOATS)
+            },
+            |p| Answer::Charge { charge: p.whole(0), remainder: p.whole(1) },
         )
     }
 

@@ -603,6 +603,44 @@ pub fn plans() -> Vec<(String, Case)> {
     list.0
 }
 
+/// M-106: charges of one band and of several, and every bound of a tariff.
+pub fn charges() -> Vec<(String, Case)> {
+    const TOP: u64 = 1 << 40;
+    let mut list = List(vec![]);
+    for (name, total, ends, rates) in [
+        ("nothing", 0, &[TOP][..], &[65_535][..]),
+        ("one_band", 1999, &[TOP], &[1]),
+        ("rounded_once", 30, &[10, 20, TOP], &[99, 99, 99]),
+        ("end_of_band", 1000, &[1000, TOP], &[3, 50]),
+        ("into_next_band", 1001, &[1000, TOP], &[3, 50]),
+        ("first_end_0", 7, &[0, TOP], &[65_535, 1000]),
+        ("rate_0", 5000, &[1000, TOP], &[0, 2]),
+        ("eight_bands", 40, &[1, 2, 4, 8, 16, 32, 64, TOP], &[1, 20, 300, 4000, 50_000, 6000, 700, 80]),
+        ("top", TOP, &[TOP], &[65_535]),
+        ("top_in_last_band", TOP, &[TOP - 1, u64::MAX], &[0, 65_535]),
+        ("bands_past_top", TOP, &[5, TOP, TOP + 1, u64::MAX], &[1, 2, 3, 4]),
+        ("no_bands", 0, &[], &[]),
+        ("nine_bands", 0, &[1, 2, 3, 4, 5, 6, 7, 8, TOP], &[1, 1, 1, 1, 1, 1, 1, 1, 1]),
+        ("rate_missing", 0, &[1, TOP], &[1]),
+        ("end_missing", 0, &[TOP], &[1, 1]),
+        ("equal_ends", 0, &[5, 5, TOP], &[1, 1, 1]),
+        ("equal_last_ends", 0, &[TOP, TOP], &[1, 1]),
+        ("ends_descend", 0, &[6, 5, TOP], &[1, 1, 1]),
+        ("last_end_low", 0, &[TOP - 1], &[1]),
+        ("last_end_below_first", 0, &[TOP, 5], &[1, 1]),
+        ("rate_65535", 1000, &[TOP], &[65_535]),
+        ("rate_65536", 1000, &[TOP], &[65_536]),
+        ("rate_most", 1000, &[1, TOP], &[u32::MAX, 1]),
+        ("above_top", TOP + 1, &[u64::MAX], &[1]),
+        ("most", u64::MAX, &[u64::MAX], &[1]),
+        ("malformed_and_above", TOP + 1, &[TOP - 1], &[1]),
+    ] {
+        let (ends, rates) = (ends.to_vec(), rates.to_vec());
+        list.add(&format!("charge_{name}"), Case::Charge { total, ends, rates });
+    }
+    list.0
+}
+
 /// Rows of 130 cells, so two blocks of 64 and a rest, of every packet under every scheme that it allows.
 fn blocks(list: &mut List) {
     let bytes: Vec<u8> = (0..261).map(|i| (i * 7 % 256) as u8).collect();
@@ -740,6 +778,7 @@ pub fn list() -> Vec<(String, Case)> {
     list.extend(gaps());
     list.extend(dates());
     list.extend(plans());
+    list.extend(charges());
     list
 }
 

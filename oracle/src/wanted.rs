@@ -8,6 +8,7 @@ pub fn answer(case: &Case) -> Answer {
         Case::Gaps { marks, .. } => gaps(case.clone().ordinary(), *marks),
         Case::Plan { totals, plan, .. } => planned(case.clone().ordinary(), *totals, plan),
         Case::Date { days } => model::date(*days).map_or_else(Answer::Refused, Answer::Date),
+        Case::Charge { total, ends, rates } => model::charge(*total, ends, rates).unwrap_or_else(Answer::Refused),
         _ => altered(case, radish::answer(case)),
     }
 }

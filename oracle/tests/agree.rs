@@ -19,7 +19,7 @@ fn the_rust_agrees_with_itself() {
     }
     assert_eq!(compare.counts.differences, 0);
     assert_eq!(compare.counts.missing(), Vec::<String>::new());
-    assert!(!compare.counts.plan_laws.contains(&0));
+    assert!(!compare.counts.plan_laws.contains(&0) && !compare.counts.charge_laws.contains(&0));
 }
 
 #[test]
@@ -37,6 +37,7 @@ fn a_case_survives_its_line() {
             cases::read(rng),
             cases::scan_time(rng),
             cases::date(rng),
+            cases::charge(rng),
         ] {
             let line = case.line("name");
             let (name, again) = Case::parse(&line).unwrap();

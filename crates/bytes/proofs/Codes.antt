@@ -1,5 +1,5 @@
--- The table of codes: its rule, by computation, and the signed code. Assumes nothing.
-use Prim.Native.Nat.{ℕ, zero, suc, _<_}
+-- Lists that ascend, by the test and element by element; the table of codes by computation; the signed code. Assumes nothing.
+use Prim.Native.Nat.{ℕ, zero, suc, _<_, suc-le-suc}
 use native.Mathlib.Nat.{not-suc-le-zero, le-of-suc-le-suc, lt-trans}
 use native.Mathlib.Omega.{arith}
 use mathlib.Core.List.{List, [], _∷_}
@@ -11,17 +11,11 @@ use lib.IntN.{ℤ, pos, negsuc, natAbs}
 use lib.Signed.{ltZ, nonNeg}
 use mir.Syntax.{w16}
 use mir.Val.{Fits, SFits}
-use borrow.Author.Tests.{ltb-true}
-use Rattle.bytes.specs.Products.{codes, known, Ascending}
+use borrow.Author.Tests.{ltb-true, lt-ltb}
+use Rattle.bytes.specs.Products.{codes, known, Ascending, climbs}
 use Rattle.bytes.specs.Text.{member}
 
 -- ---- ascending
-
--- the test that is computed: each number is below the next
-abbrev climbs : List ℕ → Bool
-climbs [] = true
-climbs (x ∷ []) = true
-climbs (x ∷ y ∷ s) = ltb x y && climbs (y ∷ s)
 
 pub both : (a b : Bool) → a && b ≡ true → (a ≡ true) × (b ≡ true)
 both true b h = (refl, h)
@@ -29,24 +23,33 @@ both false b h = let z : _≡_ {A = ℕ} 0 1 = cc in absurd (omega arith)
 
 -- the first is below every later one
 first-below : (x : ℕ) (s : List ℕ) → climbs (x ∷ s) ≡ true → (j : ℕ) → j < length s → x < getD s j 0
+unfolding climbs
 first-below x [] h j k = absurd (not-suc-le-zero k)
 first-below x (y ∷ s) h zero k = ltb-true x y (both _ _ h .0)
 first-below x (y ∷ s) h (suc j) k =
     lt-trans (ltb-true x y (both _ _ h .0)) (first-below y s (both (ltb x y) _ h .1) j (le-of-suc-le-suc k))
 
 rest-climbs : (x : ℕ) (s : List ℕ) → climbs (x ∷ s) ≡ true → climbs s ≡ true
+unfolding climbs
 rest-climbs x [] h = refl
 rest-climbs x (y ∷ s) h = both (ltb x y) _ h .1
 
-ascends : (s : List ℕ) → climbs s ≡ true → Ascending s
+pub ascends : (s : List ℕ) → climbs s ≡ true → Ascending s
 ascends [] h i j l k = absurd (not-suc-le-zero k)
 ascends (x ∷ s) h i zero l k = absurd (not-suc-le-zero l)
 ascends (x ∷ s) h zero (suc j) l k = first-below x s h j (le-of-suc-le-suc k)
 ascends (x ∷ s) h (suc i) (suc j) l k = ascends s (rest-climbs x s h) i j (le-of-suc-le-suc l) (le-of-suc-le-suc k)
 
+pub climbing : (s : List ℕ) → Ascending s → climbs s ≡ true
+unfolding climbs
+climbing [] h = refl
+climbing (x ∷ []) h = refl
+climbing (x ∷ y ∷ s) h =
+    rw (lt-ltb x y (h 0 1 (omega arith) (omega arith))) (climbing (y ∷ s) (λ i j l k. h (suc i) (suc j) (suc-le-suc l) (suc-le-suc k)))
+
 -- the table is ascending, with no repeats
 pub codes-ascending : Ascending codes
-unfolding codes
+unfolding codes climbs
 codes-ascending = ascends codes refl
 
 -- ---- the signed code

@@ -1,6 +1,7 @@
 pub mod Numbers
 pub mod Patterns
 pub mod Codes
+pub mod Every
 pub mod Counted
 pub mod Walks
 pub mod Ends

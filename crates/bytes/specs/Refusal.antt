@@ -1,4 +1,4 @@
--- Document 01's table, 'When reading stops': the number and the values of each kind of refusal.
+-- Document 01's table, 'When reading stops', and what document 02 adds to it: the number and the values of each kind of refusal.
 use Prim.Native.Nat.{ℕ}
 use mathlib.Core.List.{List, [], _∷_}
 use lib.IntN.{ℤ, pos}
@@ -6,7 +6,7 @@ use lib.Ieee.{Float}
 use Rattle.bytes.specs.declared.error.XdrItem.{XdrItem}
 use Rattle.bytes.specs.declared.error.Buffer.{Buffer}
 use Rattle.bytes.specs.declared.error.Level3DecodeError.{Level3DecodeError}
-use Rattle.bytes.specs.declared.error.Level3DecodeError.the-variants.{NoAwipsToken, NoMessageHeader, PdbFieldOutOfBounds, ImplausibleScanTime, ScanTimeTooFarAhead, ClockOutOfRange, NonFiniteScale, NonFiniteOffset, NonPositiveIncrement, SchemeMismatch, UnexpectedTrailingBytes, SymbologyTruncated, BadSymbologyHeader, UnsupportedPacketCode, EmptySweep, GridTooLarge, NonZeroFirstBin, AllocationExceedsBody, TruncatedAtRadial, ImplausibleRadialWidth, RadialByteCountMismatch, RleExpansionMismatch, XdrTruncated, XdrStringTooLong, XdrArrayTooLong, XdrListTooLong, UnsupportedXdrComponent, UnexpectedXdrComponentCount, NonPositiveXdrGeometry, ImplausibleXdrRadialCount, XdrRadialBinCountMismatch, XdrRadialDataLengthMismatch, XdrGridTooLarge, XdrRawLevelOutOfRange, XdrTrailingBytes, BufferTooShort, PlanMalformed, FieldRepeated, StripOutside}
+use Rattle.bytes.specs.declared.error.Level3DecodeError.the-variants.{NoAwipsToken, NoMessageHeader, PdbFieldOutOfBounds, ImplausibleScanTime, ScanTimeTooFarAhead, ClockOutOfRange, NonFiniteScale, NonFiniteOffset, NonPositiveIncrement, SchemeMismatch, UnexpectedTrailingBytes, SymbologyTruncated, BadSymbologyHeader, UnsupportedPacketCode, EmptySweep, GridTooLarge, NonZeroFirstBin, AllocationExceedsBody, TruncatedAtRadial, ImplausibleRadialWidth, RadialByteCountMismatch, RleExpansionMismatch, XdrTruncated, XdrStringTooLong, XdrArrayTooLong, XdrListTooLong, UnsupportedXdrComponent, UnexpectedXdrComponentCount, NonPositiveXdrGeometry, ImplausibleXdrRadialCount, XdrRadialBinCountMismatch, XdrRadialDataLengthMismatch, XdrGridTooLarge, XdrRawLevelOutOfRange, XdrTrailingBytes, BufferTooShort, PlanMalformed, FieldRepeated, StripOutside, TariffMalformed, TotalTooLarge}
 
 -- a value that a refusal carries: a whole number, a float, the XDR item cut short, the buffer that is short
 pub data Value : Type 0 where
@@ -63,3 +63,5 @@ refusalOf (BufferTooShort b) = kind 36 (buffer b ∷ [])
 refusalOf (PlanMalformed o) = kind 37 (nat o ∷ [])
 refusalOf (FieldRepeated o) = kind 38 (nat o ∷ [])
 refusalOf (StripOutside o) = kind 39 (nat o ∷ [])
+refusalOf TariffMalformed = kind 40 []
+refusalOf TotalTooLarge = kind 41 []

@@ -1,4 +1,4 @@
-// The kinds of refusal, in the order of their numbers, 1 to 39.
+// The kinds of refusal, in the order of their numbers, 1 to 41.
 // specs/Refusal.antt gives the number and the values of each.
 
 // The XDR item that was cut short.
@@ -150,4 +150,6 @@ pub enum Level3DecodeError {
     StripOutside {
         offset: usize,
     },
+    TariffMalformed,
+    TotalTooLarge,
 }

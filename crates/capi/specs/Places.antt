@@ -11,6 +11,7 @@ use Rattle.bytes.specs.declared.bytes.I16Read.the-variants as I16
 use Rattle.bytes.specs.declared.bytes.I32Read.{I32Read}
 use Rattle.bytes.specs.declared.bytes.I32Read.the-variants as I32
 use Rattle.calendar.specs.declared.date.Date.{Date}
+use Rattle.tariff.specs.declared.charge.Charge.{Charge}
 use Rattle.head.specs.declared.pdb.F32Pair.{F32Pair}
 use Rattle.head.specs.declared.pdb.PdbFields.{PdbFields}
 use Rattle.scale.specs.declared.scaling.LinearScale.{LinearScale}
@@ -33,7 +34,7 @@ use Rattle.capi.specs.declared.places.PicturePlaces.{PicturePlaces}
 use Rattle.capi.specs.declared.places.ScalePlaces.{ScalePlaces}
 use Rattle.capi.specs.Report.{word, report, withPlace}
 
--- ---- small values: nothing, a number, a signed number, a float, two floats, a part of the payload, a date
+-- ---- small values: nothing, a number, a signed number, a float, two floats, a part of the payload, a date, a charge
 
 abbrev pub noReport : {A : Type 0} → A → Report
 noReport a = report 0 [] []
@@ -68,6 +69,9 @@ partReport p = report 0 (p .start ∷ p .len ∷ []) []
 
 abbrev pub dateReport : Date → Report
 dateReport d = report 0 (d .year ∷ d .month ∷ d .day ∷ []) []
+
+abbrev pub chargeReport : Charge → Report
+chargeReport c = report 0 (c .charge ∷ c .remainder ∷ []) []
 
 -- ---- file, picture and scale
 

@@ -1,5 +1,6 @@
 // The reader behind C functions. l3.h says what each one takes, returns and writes.
 pub mod body;
+pub mod charges;
 mod copies;
 pub mod dates;
 pub mod header;

@@ -246,6 +246,8 @@ pub(crate) fn refusal_report(error: Level3DecodeError) -> Report
         Level3DecodeError::PlanMalformed { offset } => wholes(37, offset as u64, 0, 0, 0),
         Level3DecodeError::FieldRepeated { offset } => wholes(38, offset as u64, 0, 0, 0),
         Level3DecodeError::StripOutside { offset } => wholes(39, offset as u64, 0, 0, 0),
+        Level3DecodeError::TariffMalformed => wholes(40, 0, 0, 0, 0),
+        Level3DecodeError::TotalTooLarge => wholes(41, 0, 0, 0, 0),
     }
 }
 

@@ -11,8 +11,12 @@ use Rattle.bytes.specs.Text.{same, all, leading}
 abbrev pub isSpace : ℕ → Bool
 isSpace b = eqb b 32
 
+-- any byte but one
+abbrev pub other : ℕ → ℕ → Bool
+other stop b = not (eqb b stop)
+
 abbrev pub noSpace : ℕ → Bool
-noSpace b = not (eqb b 32)
+noSpace = other 32
 
 -- where the word at a place or after it begins, and where the one at a place ends
 unfoldable pub startFrom : List ℕ → ℕ → ℕ

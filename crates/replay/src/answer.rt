@@ -39,6 +39,9 @@ fn plain_kind(line: &[u8]) -> Kind {
     if is(line, b"date") {
         return Kind::Date;
     }
+    if is(line, b"charge") {
+        return Kind::Charge;
+    }
     if is(line, b"leg") {
         return Kind::Legacy;
     }
@@ -103,7 +106,7 @@ fn is_items(word: &[u8]) -> bool {
 }
 
 // Whether a word is what a letter asks for: w any, n a size, h a u16, z an i32, j an i16, c a clock, b bytes, t 32 bytes, x the bits of
-// a float, s a scheme, k the kind of a field, o XDR items.
+// a float, s a scheme, k the kind of a field, o XDR items, l a list of sizes, r one of u32.
 fn fits(word: &[u8], letter: u8) -> bool {
     match letter {
         b'n' => crate::words::is_size(word),
@@ -117,6 +120,8 @@ fn fits(word: &[u8], letter: u8) -> bool {
         b's' => is_scheme(word),
         b'k' => crate::kinds::field_kind(word) < 4,
         b'o' => is_items(word),
+        b'l' => crate::lists::is_list(word, u64::MAX),
+        b'r' => crate::lists::is_list(word, 4294967295),
         _ => 0 < word.len(),
     }
 }
@@ -144,6 +149,7 @@ fn is_formed(line: &[u8], kind: Kind) -> bool {
         Kind::Field => has(line, b"wwbnnk"),
         Kind::Block | Kind::Linear | Kind::Float | Kind::Threshold => has(line, b"wwbn"),
         Kind::Precip => has(line, b"wwbnx"),
+        Kind::Charge => has(line, b"wwnlr"),
         Kind::Legacy => has(line, b"wwtx"),
         Kind::Known => has(line, b"wwj"),
         Kind::Codes => has(line, b"ww"),
@@ -159,6 +165,7 @@ fn print(kind: Kind, line: &[u8]) {
         Kind::Plan => crate::sweeps::answer(line, Reading::Plan),
         Kind::Symbology => crate::body::symbology(line),
         Kind::Threshold => crate::tables::threshold(line),
+        Kind::Charge => crate::charges::answer(line),
         Kind::Legacy => crate::tables::legacy(line),
         Kind::Known => crate::tables::known(line),
         Kind::Codes => crate::tables::codes(),

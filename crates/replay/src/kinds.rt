@@ -17,6 +17,7 @@ pub enum Kind {
     Float,
     Threshold,
     Precip,
+    Charge,
     Legacy,
     Trailing,
     Known,

@@ -2,10 +2,12 @@
 // with the Rust; its program `sample` writes crates/replay/stdin, and with `--answers` the Rust's answers, crates/replay/stdout.
 mod answer;
 mod body;
+mod charges;
 mod hex;
 mod kinds;
 mod lent;
 mod lines;
+mod lists;
 mod print;
 mod refusal;
 mod small;

@@ -5,7 +5,7 @@ ghost use mathlib.Core.Path.{_≡_};
 ghost use lib.ListN.{length, drop};
 ghost use Rattle.bytes.specs.Bytes.{signed as signedOf};
 ghost use Rattle.bytes.specs.Text.{all, leading};
-ghost use Rattle.replay.specs.Words.{isSpace, noSpace, startFrom, endFrom, ended, wordOf};
+ghost use Rattle.replay.specs.Words.{isSpace, other, startFrom, endFrom, ended, wordOf};
 ghost use Rattle.replay.specs.Words.{isDigit, digitOf, withDigit, numberOf, isNumber, negative};
 ghost use Rattle.replay.specs.Words.{isUnsigned, isSize, isSigned, clockOf, signedWord};
 
@@ -23,13 +23,13 @@ fn spaces(text: &[u8]) -> usize
     i
 }
 
-// How many other bytes do.
-fn letters(text: &[u8]) -> usize
-    ensures { λ r. ⌜ r ≡ leading noSpace (now (text .entry)) ⌝ }
+// How many bytes stand before the first `stop`.
+pub fn letters(text: &[u8], stop: u8) -> usize
+    ensures { λ r. ⌜ r ≡ leading (other stop) (now (text .entry)) ⌝ }
 {
     let mut i = 0usize;
     while i < text.len() {
-        if text[i] == b' ' {
+        if text[i] == stop {
             return i;
         }
         i += 1;
@@ -50,7 +50,7 @@ fn end_from(line: &[u8], at: usize) -> usize
     requires { ⌜ at ≤ length (now line) ⌝ }
     ensures { λ r. ⌜ (r ≡ endFrom (now (line .entry)) at) × (r ≤ length (now (line .entry))) ⌝ }
 {
-    at + letters(&line[at..])
+    at + letters(&line[at..], b' ')
 }
 
 // Where the first k words have ended.
@@ -72,7 +72,7 @@ pub fn word(line: &[u8], k: usize) -> &[u8]
 {
     let start = start_from(line, after(line, k));
     let rest = &line[start..];
-    let n = letters(rest);
+    let n = letters(rest, b' ');
     &rest[..n]
 }
 
@@ -144,7 +144,7 @@ fn is_number(text: &[u8]) -> bool
     all_digits(text)
 }
 
-fn number(text: &[u8]) -> u64
+pub fn number(text: &[u8]) -> u64
     ensures { λ r. ⌜ r ≡ numberOf (now (text .entry)) ⌝ }
 {
     let mut n = 0u64;

@@ -378,6 +378,21 @@ fn print_plan(e: Level3DecodeError) {
                 offset,
             );
         }
+        _ => print_charge(e),
+    }
+}
+
+// 40 and 41: a charge.
+fn print_charge(e: Level3DecodeError) {
+    match e {
+        Level3DecodeError::TariffMalformed => {
+            kind(40, b"TariffMalformed");
+            words(b"the ends and rates are not those of a tariff");
+        }
+        Level3DecodeError::TotalTooLarge => {
+            kind(41, b"TotalTooLarge");
+            words(b"the total is above 1099511627776");
+        }
         _ => {}
     }
 }

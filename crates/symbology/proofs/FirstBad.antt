@@ -12,7 +12,7 @@ use Rattle.bytes.specs.Refusal.{Refusal, kind, nat, whole}
 use Rattle.bytes.specs.Result.{accepted, refuse}
 use Rattle.bytes.specs.Text.{all, leading}
 use Rattle.symbology.specs.Rows.{push, isLevel, levels}
-use Rattle.symbology.proofs.Every.{all-at}
+use Rattle.bytes.proofs.Every.{all-at}
 
 -- where all are levels, each is
 pub each-level : (vs : List ℕ) (k : ℕ) → all isLevel vs ≡ true → getD vs k 0 ≤ 65535

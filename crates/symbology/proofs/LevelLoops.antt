@@ -18,7 +18,7 @@ use Rattle.bytes.proofs.Walks.{Walk, walk-first, front, front-next, front-stop,
 use Rattle.symbology.specs.Rows.{words, isLevel, levels}
 use Rattle.symbology.specs.Walk.{swap}
 use Rattle.symbology.proofs.RowWords.{words-length, words-at}
-use Rattle.symbology.proofs.Every.{not-all}
+use Rattle.bytes.proofs.Every.{not-all}
 use Rattle.symbology.proofs.FirstBad.{each-level, levels-are}
 use Rattle.symbology.proofs.RunLoops.{left-cons}
 use Rattle.symbology.proofs.LowFirst.{all-back}

@@ -18,7 +18,7 @@ use Rattle.symbology.specs.Rows.{words, isLevel, row28, rowOf, codesOf}
 use Rattle.symbology.specs.Levels.{integer, InRange, RowOfLevels}
 use Rattle.symbology.specs.declared.figures.Packet.the-variants.{Packet28}
 use Rattle.symbology.proofs.RowWords.{words-length, words-at}
-use Rattle.symbology.proofs.Every.{all-of, first-not}
+use Rattle.bytes.proofs.Every.{all-of, first-not}
 use Rattle.symbology.proofs.FirstBad.{each-level, levels-are}
 use Rattle.symbology.proofs.FullRow.{row-made}
 

@@ -1,5 +1,4 @@
 pub mod RowWords
-pub mod Every
 pub mod FirstBad
 pub mod FullRow
 pub mod Runs

@@ -15,7 +15,7 @@ pub const ITEMS: [&str; 7] = ["int", "uint", "float", "string_body", "padding", 
 pub const BUFFERS: [&str; 5] = ["azimuths", "codes", "physical", "marks", "totals"];
 
 /// The table's names, from 1.
-pub const NAMES: [&str; 39] = [
+pub const NAMES: [&str; 41] = [
     "NoAwipsToken",
     "NoMessageHeader",
     "PdbFieldOutOfBounds",
@@ -55,6 +55,8 @@ pub const NAMES: [&str; 39] = [
     "PlanMalformed",
     "FieldRepeated",
     "StripOutside",
+    "TariffMalformed",
+    "TotalTooLarge",
 ];
 
 #[derive(Debug, Clone, Copy, PartialEq, Eq)]
@@ -173,6 +175,10 @@ pub enum Answer {
     Each {
         reads: Vec<Each>,
         left: usize,
+    },
+    Charge {
+        charge: u128,
+        remainder: u128,
     },
     /// The number's bytes are not there.
     Nothing,
@@ -360,6 +366,7 @@ impl Answer {
             (Each { reads: a, left: b }, Each { reads: c, left: d }) => {
                 b == d && a.len() == c.len() && a.iter().zip(c).all(|(x, y)| x.same(y))
             }
+            (Charge { charge: a, remainder: b }, Charge { charge: c, remainder: d }) => (a, b) == (c, d),
             (Nothing, Nothing) => true,
             _ => false,
         }
@@ -506,6 +513,7 @@ impl Display for Answer {
                 }
                 write!(f, " left={left}")
             }
+            Answer::Charge { charge, remainder } => write!(f, "A {charge} {remainder}"),
             Answer::Nothing => write!(f, "N"),
             Answer::Panic => write!(f, "PANIC"),
             Answer::Absent => write!(f, "? not in the Rust"),

@@ -1,5 +1,5 @@
 //! One case: which reading, and its inputs.
-use crate::text::{hex, unhex};
+use crate::text::{hex, list, unhex};
 
 #[derive(Debug, Clone, Copy, PartialEq)]
 pub enum Scheme {
@@ -119,6 +119,12 @@ pub enum Case {
     Each {
         payload: Vec<u8>,
     },
+    /// The charge for a total by a tariff: the bands' upper ends and rates.
+    Charge {
+        total: u64,
+        ends: Vec<u64>,
+        rates: Vec<u32>,
+    },
     /// A number at an offset. A pair is none.
     Read {
         bytes: Vec<u8>,
@@ -218,6 +224,14 @@ fn number<T: std::str::FromStr>(s: &str) -> Result<T, String> {
     s.parse().map_err(|_| format!("{s}: not a number of the kind wanted"))
 }
 
+/// Numbers with commas.
+fn numbers<T: std::str::FromStr>(s: &str) -> Result<Vec<T>, String> {
+    match s {
+        "-" => Ok(vec![]),
+        _ => s.split(',').map(number).collect(),
+    }
+}
+
 impl Case {
     /// The first word of the line.
     pub fn kind(&self) -> &'static str {
@@ -243,6 +257,7 @@ impl Case {
             Case::Xdr { .. } => "xdr",
             Case::Each { .. } => "each",
             Case::Read { .. } => "read",
+            Case::Charge { .. } => "charge",
         }
     }
 
@@ -320,6 +335,7 @@ impl Case {
                 }
             }
             "each" => Case::Each { payload: bytes(2)? },
+            "charge" => Case::Charge { total: number(word(2)?)?, ends: numbers(word(3)?)?, rates: numbers(word(4)?)? },
             "read" => match FieldKind::parse(word(4)?)? {
                 FieldKind::Pair => return Err("no pair is read".into()),
                 kind => Case::Read { bytes: bytes(2)?, offset: number(word(3)?)?, kind },
@@ -362,6 +378,7 @@ impl Case {
             Case::Known { code } => code.to_string(),
             Case::Codes => return format!("{kind} {name}"),
             Case::Each { payload } => hex(payload),
+            Case::Charge { total, ends, rates } => format!("{total} {} {}", list(ends), list(rates)),
             Case::Read { bytes, offset, kind } => format!("{} {offset} {}", hex(bytes), kind.text()),
             Case::Xdr { ops, payload } => format!("{} {}", if ops.is_empty() { "-" } else { ops }, hex(payload)),
         };

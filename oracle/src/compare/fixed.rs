@@ -11,7 +11,7 @@ use crate::sample;
 use lines::{Answer, Case, FieldKind, Lent, Packet, Refusal, Scheme};
 
 /// Every list of up to `most` elements.
-fn lists<T: Copy>(of: &[T], most: usize) -> Vec<Vec<T>> {
+pub(super) fn lists<T: Copy>(of: &[T], most: usize) -> Vec<Vec<T>> {
     let mut all = vec![vec![]];
     let mut last = all.clone();
     for _ in 0..most {
@@ -61,6 +61,7 @@ impl Compare {
         self.gaps_fixed(seed);
         self.plans_fixed(seed);
         self.level_counts(seed);
+        self.charges_fixed();
         self.mixed_radials(seed);
         self.every_centre(seed);
         self.caps(seed);

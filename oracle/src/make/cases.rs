@@ -250,6 +250,94 @@ pub fn level_count(rng: &mut Rng) -> Case {
     Case::Sweep { clock, scheme, lent, file: file.bytes, body: body.bytes }
 }
 
+/// A tariff that is well formed: ends and rates.
+fn tariff(rng: &mut Rng) -> (Vec<u64>, Vec<u32>) {
+    let top = 1 << 40;
+    let bands = rng.between(1, 8);
+    let end = |rng: &mut Rng| match rng.below(6) {
+        0 => rng.below(4) as u64,
+        1 => top - rng.below(4) as u64,
+        2 => top + rng.below(4) as u64,
+        3 => rng.u64() >> rng.below(40),
+        _ => rng.u64() >> rng.between(25, 60),
+    };
+    let mut ends: Vec<u64> = (1..bands).map(|_| end(rng)).collect();
+    ends.push(rng.pick(&[top, top, top + 1, 1 << 63, u64::MAX]));
+    ends.sort();
+    ends.dedup();
+    let rate = |rng: &mut Rng| match rng.below(4) {
+        0 => rng.pick(&[0, 1, 999, 1000, 65_535]),
+        _ => rng.u16().into(),
+    };
+    let rates = ends.iter().map(|_| rate(rng)).collect();
+    (ends, rates)
+}
+
+/// A total, near one of the ends as often as not.
+fn total(rng: &mut Rng, ends: &[u64]) -> u64 {
+    let top = 1 << 40;
+    match rng.below(8) {
+        0 => rng.pick(&[0, 1, top - 1, top, top, top + 1, u64::MAX]),
+        1..=4 if !ends.is_empty() => rng.pick(ends).saturating_add(rng.below(3) as u64).saturating_sub(1).min(top),
+        _ => rng.u64() >> rng.between(24, 63),
+    }
+}
+
+/// The charge of two totals by one tariff that is well formed.
+pub fn charges(rng: &mut Rng) -> (Vec<u64>, Vec<u32>, [u64; 2]) {
+    let (ends, rates) = tariff(rng);
+    let totals = [total(rng, &ends), total(rng, &ends)];
+    (ends, rates, totals)
+}
+
+/// A charge, by a tariff that is malformed more often than not.
+pub fn charge(rng: &mut Rng) -> Case {
+    let (mut ends, mut rates) = tariff(rng);
+    let total = total(rng, &ends);
+    match rng.below(12) {
+        0 => {
+            ends.clear();
+            rates.clear();
+        }
+        1 | 2 => {
+            // eight bands, nine, or ten
+            for _ in 0..rng.between(8, 10).saturating_sub(ends.len()) {
+                ends.insert(0, 0);
+                rates.push(rng.u16().into());
+            }
+            for (k, end) in ends.iter_mut().enumerate().take(8) {
+                *end = (*end).max(k as u64);
+            }
+        }
+        3 => {
+            rates.pop();
+        }
+        4 => rates.push(rng.u16().into()),
+        5 => {
+            let at = rng.below(ends.len());
+            ends.insert(at, ends[at]);
+            rates.insert(at, rng.u16().into());
+        }
+        6 => {
+            let (a, b) = (rng.below(ends.len()), rng.below(ends.len()));
+            ends.swap(a, b);
+        }
+        7 => {
+            // the last end is below 2^40, or just there
+            let last = (1 << 40) - rng.below(3) as u64;
+            ends.retain(|end| *end < last);
+            ends.push(last);
+            rates.resize(ends.len(), 7);
+        }
+        8 | 9 => {
+            let at = rng.below(rates.len());
+            rates[at] = rng.pick(&[65_535, 65_536, 65_537, 0x8000_0000, u32::MAX]);
+        }
+        _ => {}
+    }
+    Case::Charge { total, ends, rates }
+}
+
 pub fn symbology(rng: &mut Rng) -> Case {
     let packet = rng.pick(&Packet::ALL);
     let mut body = body::good(rng, packet);

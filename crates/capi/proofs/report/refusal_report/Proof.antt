@@ -296,6 +296,18 @@ enum-known-error-35 c = search needs
 wholes-requires-35 : tie.Need-wholes-requires-35
 wholes-requires-35 c κs = search needs
 
+enum-told-5 : tie.Need-enum-told-5
+enum-told-5 c = search needs
+
+wholes-requires-36 : tie.Need-wholes-requires-36
+wholes-requires-36 c κs = search needs
+
+enum-told-6 : tie.Need-enum-told-6
+enum-told-6 c = search needs
+
+wholes-requires-37 : tie.Need-wholes-requires-37
+wholes-requires-37 c κs = search needs
+
 returns : tie.Need-returns
 returns c = told (c .wholes .ensures) (c .before .enum-told .given .1)
 
@@ -413,6 +425,12 @@ returns-38 c = told (c .wholes34 .ensures) (c .before .before .error34 .given .1
 returns-39 : tie.Need-returns-39
 returns-39 c = told (c .wholes35 .ensures) (c .before .before .error35 .given .1)
 
+returns-40 : tie.Need-returns-40
+returns-40 c = told (c .wholes36 .ensures) (c .before .enum-told5 .given .1)
+
+returns-41 : tie.Need-returns-41
+returns-41 c = told (c .wholes37 .ensures) (c .before .enum-told6 .given .1)
+
 pub refusal-report-spec : {M : Type 1} → statement M
 refusal-report-spec =
     tie.close
@@ -514,6 +532,10 @@ refusal-report-spec =
     wholes-requires-34
     enum-known-error-35
     wholes-requires-35
+    enum-told-5
+    wholes-requires-36
+    enum-told-6
+    wholes-requires-37
     returns
     returns-2
     returns-3
@@ -552,4 +574,6 @@ refusal-report-spec =
     returns-36
     returns-37
     returns-38
-    returns-39)
+    returns-39
+    returns-40
+    returns-41)

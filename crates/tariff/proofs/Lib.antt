@@ -1,0 +1,4 @@
+pub mod Bands
+pub mod Dues
+pub mod Charges
+pub mod Examples

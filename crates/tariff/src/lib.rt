@@ -1,0 +1,2 @@
+// The rain charge of a total by tariff.
+pub mod charge;
