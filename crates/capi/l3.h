@@ -101,7 +101,8 @@ enum { L3_KNOWN_CODES = 26 };
 /* The sweep of a file and its unpacked symbology body. clock is the present in seconds since 1970; one above 2^40 is refused with 6.
  * Accepted, the front of each buffer is written, and the rest left as it is: a centre in degrees for each radial to azimuths, the codes
  * by row to codes, their physical values to physical. A centre of packet 16 or AF1F is from 0 up to but not including 360; that of packet
- * 28 has the sign of the packet's azimuth plus half its width, and may be a NaN. After a refusal the buffers are as they were.
+ * 28 has the sign of the packet's azimuth plus half its width, and may be a NaN. After a refusal the buffers are as they were, and after
+ * a clear scan too: a body of packet 16 or AF1F with no radials is accepted with ints[L3_RADIALS] 0, however short the buffers are.
  * ints[L3_TOKEN] to [L3_FLOOR] and all of floats are as named above. */
 uint32_t l3_sweep(const uint8_t *file, size_t file_len, uint64_t clock, uint32_t scheme, float parameter,
                   const uint8_t *body, size_t body_len, double *azimuths, size_t azimuths_len,

@@ -9,6 +9,7 @@ use lines::{same_f32, Answer, Case, Lent, Packet, Refusal, Scheme, Sweep, NAMES}
 use std::collections::BTreeMap;
 
 mod charges;
+mod clear;
 mod fixed;
 mod plans;
 
@@ -40,6 +41,9 @@ pub struct Counts {
     pub charge_laws: [u64; 2],
     /// Second bodies of demand 3.
     pub damaged: [[Split; 5]; 3],
+    /// Readings of clear scans, and bodies held to one that agrees with them on the bytes that are read.
+    pub clear: [[Split; 5]; 3],
+    pub clear_alike: u64,
 }
 
 pub struct Compare {
@@ -61,6 +65,9 @@ impl Compare {
         let rust = wanted::answer(case);
         self.counts.count(case, &rust);
         let lent = match &rust {
+            Answer::Picture(p) if p.radials == 0 && self.counts.cases.is_multiple_of(2) => {
+                Lent { azimuths: 0, codes: 0, physical: 0 }
+            }
             Answer::Picture(p) => Lent { azimuths: p.radials + 1, codes: p.codes.len() + 3, physical: 0 },
             _ => Lent { azimuths: 5, codes: 40, physical: 0 },
         };
@@ -109,8 +116,11 @@ impl Compare {
         answer
     }
 
-    /// Too little lent to symbology is 36, after everything else that it refuses.
+    /// Too little lent to symbology is 36, after everything else that it refuses; nothing is too little for no radials.
     fn short_symbology(&mut self, case: &Case, radials: usize, cells: usize) {
+        if radials == 0 {
+            return;
+        }
         let lent = [(radials - 1, cells, 0), (radials, cells - 1, 1), (0, 0, 0)];
         let (azimuths, codes, buffer) = lent[(self.counts.cases % 3) as usize];
         let want = Answer::Refused(Refusal::new(36, &[buffer]));
@@ -136,7 +146,9 @@ impl Compare {
                 let block = trap::during(case, || self.port.block(file));
                 let short = Answer::Refused(Refusal::new(36, &[2]));
                 self.hold_values(case, answer, (file, block, scheme), codes, codes.len() + spare);
-                self.hold_values(case, &short, (file, block, scheme), codes, codes.len() - 1);
+                if let Some(fewer) = codes.len().checked_sub(1) {
+                    self.hold_values(case, &short, (file, block, scheme), codes, fewer);
+                }
             }
             (Answer::Refused(_), Some(block)) => self.hold_values(case, answer, (file, block, scheme), &[0, 1, 2], 2),
             _ => {}
@@ -292,9 +304,10 @@ impl Compare {
     pub fn random(&mut self, seed: u64, number: u64) {
         let rng = &mut Rng::new(seed, number);
         let case = match rng.below(100) {
-            0..=40 => cases::sweep(rng),
-            41 => cases::charge(rng),
-            42 => return self.charge_laws(rng),
+            0..=36 => cases::sweep(rng),
+            37 => cases::charge(rng),
+            38 => return self.charge_laws(rng),
+            39..=42 => return self.clear(rng),
             43 => cases::level_count(rng),
             44..=48 => return drop(self.plan(&cases::plan(rng))),
             49 | 50 => return self.plan_laws(rng),
@@ -383,6 +396,9 @@ impl Counts {
                 _ => &mut self.sweeps,
             };
             table[packet as usize][scheme.index()].count(answer);
+            if model::is_clear(body) {
+                self.clear[packet as usize][scheme.index()].count(answer);
+            }
             if matches!(answer, Answer::Gaps(_, marks) if marks.contains(&1)) {
                 self.with_gap[packet as usize] += 1;
             }
@@ -407,6 +423,9 @@ impl Counts {
                 };
                 if (fits && split.accepted == 0) || split.refused == 0 {
                     missing.push(format!("packet {} under {name}", packet.name()));
+                }
+                if packet != Packet::P28 && fits && self.clear[packet as usize][scheme].accepted == 0 {
+                    missing.push(format!("a clear scan of packet {} under {name}", packet.name()));
                 }
                 if fits && gaps.accepted == 0 {
                     missing.push(format!("a gap reading of packet {} under {name}", packet.name()));
@@ -442,6 +461,8 @@ impl Counts {
         let [larger, rates] = self.charge_laws;
         println!("charges held to another: a larger total {larger}, each rate altered {rates}");
         print_table("damaged bodies (demand 3), accepted / refused:", &self.damaged);
+        print_table("readings of clear scans by packet and scheme, accepted / refused:", &self.clear);
+        println!("  held to another with the same bytes that are read: {}", self.clear_alike);
         let missing = self.missing();
         if !missing.is_empty() {
             println!("did not occur: {}", missing.join(", "));

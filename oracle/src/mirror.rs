@@ -9,6 +9,7 @@ use std::slice::{from_raw_parts, from_raw_parts_mut};
 use std::sync::atomic::{AtomicUsize, Ordering};
 
 mod charges;
+mod clear;
 mod plans;
 
 macro_rules! slips {
@@ -125,6 +126,19 @@ slips! {
     RatesIn16Bits,
     TotalAt2To40Refused,
     TooLargeBeforeMalformed,
+    ClearScanRefused,
+    LongClearScanRefused,
+    NoBinsPass,
+    ClearFirstBinPasses,
+    ClearAf1fFirstBinRefused,
+    ClearMismatchPasses,
+    ClearStepPasses,
+    ClearNeedsRoom,
+    ClearRangeScaleLost,
+    ClearCellWritten,
+    ClearMarkWritten,
+    ClearStripsPass,
+    ClearPlanRefused,
 }
 
 /// 1 + the slip's place in `SLIPS`, or 0.
@@ -238,6 +252,7 @@ unsafe fn bytes(pointer: *const u8, len: usize) -> Vec<u8> {
 /// The Rust's answer with what document 02 alters, and 3 where the Rust would overflow.
 fn answer(case: &Case) -> Answer {
     let given = match case {
+        Case::Sweep { body, .. } | Case::Sym { body } if model::has_no_radials(body) => clear::read(case),
         Case::Sweep { .. } | Case::Sym { .. } if slips(CentreNotWrapped) => radish::answer(case),
         _ => crate::wanted::answer(case),
     };
@@ -360,7 +375,8 @@ fn reading((file, clock, (scheme, parameter), body, plan): Input, mut places: Pl
             accept(&s, place, &mut places, &mut report);
             let lent = places.marks.unwrap();
             lent[..marks.len()].copy_from_slice(&marks);
-            if slips(OneMarkMore) && lent.len() > marks.len() {
+            let one_more = slips(OneMarkMore) || slips(ClearMarkWritten) && marks.is_empty();
+            if one_more && lent.len() > marks.len() {
                 lent[marks.len()] = 0;
             }
             0
@@ -404,6 +420,9 @@ fn write(picture: &Picture, azimuths: &mut [f64], codes: &mut [u16]) {
     }
     azimuths[..picture.radials].copy_from_slice(&picture.azimuths);
     codes[..picture.codes.len()].copy_from_slice(&picture.codes);
+    if let (true, 0, Some(first)) = (slips(ClearCellWritten), picture.radials, codes.first_mut()) {
+        *first = 0;
+    }
     if slips(OnePlaceMore) && codes.len() > picture.codes.len() {
         codes[picture.codes.len()] = 0;
     }

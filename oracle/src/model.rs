@@ -1,8 +1,8 @@
 //! Document 01's sentences once more, worked out here without the Rust and without the port: where the token, the message
 //! header and the fields stand, what a code's physical value is, where a body's radials stand, which of its bytes are data or
 //! unread, and what row a radial's data make or that they make none; and of document 02 the centres, the gaps, the dates,
-//! the count of levels, the charges and, in plans.rs, the field plans.
-use lines::{Answer, Date, Packet, Refusal, Scheme, Sweep};
+//! the count of levels, the charges, the clear scans and, in plans.rs, the field plans.
+use lines::{Answer, Date, Packet, Picture, Refusal, Scheme, Sweep};
 use std::ops::Range;
 
 pub mod plans;
@@ -301,9 +301,7 @@ pub fn mended(body: &[u8]) -> (Vec<u8>, Vec<usize>) {
     // from the last on: the places before a radial stay
     for data in gaps.iter().rev().map(|radial| data[*radial].clone()) {
         if packet == Packet::Af1f {
-            let mut runs = vec![0xf0; bins / 15];
-            runs.push((bins % 15 * 16) as u8);
-            runs.resize(runs.len().next_multiple_of(2), 0);
+            let runs = runs_of(bins);
             mended[data.start - 6..data.start - 4].copy_from_slice(&(runs.len() as u16 / 2).to_be_bytes());
             mended.splice(data, runs);
         } else {
@@ -311,6 +309,46 @@ pub fn mended(body: &[u8]) -> (Vec<u8>, Vec<usize>) {
         }
     }
     (mended, gaps)
+}
+
+/// Runs of so many cells of colour 0, an even number of bytes.
+fn runs_of(bins: usize) -> Vec<u8> {
+    let mut runs = vec![0xf0; bins / 15];
+    runs.push((bins % 15 * 16) as u8);
+    runs.resize(runs.len().next_multiple_of(2), 0);
+    runs
+}
+
+/// A body of packet 16 or AF1F, long enough for its header, that says no radials.
+pub fn has_no_radials(body: &[u8]) -> bool {
+    body.len() >= 30 && matches!(u16_at(body, 16), 16 | 0xaf1f) && u16_at(body, 28) == 0
+}
+
+/// Document 02, M-107: one with bins at or above 1.
+pub fn is_clear(body: &[u8]) -> bool {
+    has_no_radials(body) && u16_at(body, 20) > 0
+}
+
+/// The bytes that such a body is read by; AF1F's first bin is unread.
+pub fn clear_reads(body: &[u8]) -> Vec<Range<usize>> {
+    let mut reads = vec![0..4, 16..18, 20..22, 26..30];
+    if u16_at(body, 16) == 16 {
+        reads.push(18..20);
+    }
+    reads
+}
+
+/// A clear scan with one good radial in place of none and nothing after it: the other checks look at nothing that differs.
+pub fn with_a_row(body: &[u8]) -> Vec<u8> {
+    let bins = u16_at(body, 20);
+    let (unit, data) = if u16_at(body, 16) == 16 { (1, vec![0; bins]) } else { (2, runs_of(bins)) };
+    let radial = [1, (data.len() / unit) as u16, 0, 10].map(u16::to_be_bytes).concat();
+    [&body[..28], &radial, &data].concat()
+}
+
+/// The picture without its rows.
+pub fn without_rows(picture: &mut Picture) {
+    (picture.radials, picture.azimuths, picture.codes) = (0, vec![], vec![]);
 }
 
 /// A gap's row: code 0, and NaN whatever value code 0 has.

@@ -3,6 +3,7 @@
 use crate::compare::Counts;
 use crate::make::plans::{self, Record, Record::*};
 use crate::make::{cases, Rng};
+use crate::model;
 use crate::wanted;
 use lines::{Case, FieldKind, Lent, Packet, Scheme};
 use std::collections::HashMap;
@@ -641,6 +642,62 @@ pub fn charges() -> Vec<(String, Case)> {
     list.0
 }
 
+/// Clear scans (M-107): under every scheme, with what is refused of them, with gaps and with a plan.
+pub fn clear() -> Vec<(String, Case)> {
+    let mut list = List(vec![]);
+    let (clear16, clear_af1f) = (header(16, 0, 5, 0), header(0xaf1f, 0, 5, 0));
+    let rain = || precip(10.0, 1.0, [251, 2, 2]);
+    let fields = plans::bytes(&[Field(9), Field(3)]);
+    for (name, scheme, file) in [
+        ("halfword", Scheme::Halfword, halfword(-320, 5, 254)),
+        ("float", Scheme::Float, float(16.0, 128.0)),
+        ("precip", PRECIP, rain()),
+        ("legacy", Scheme::Legacy(1.0), legacy()),
+        ("class", Scheme::Class, class()),
+    ] {
+        list.sweep(&format!("clear_16_{name}"), CLOCK, scheme, file.clone(), clear16.clone());
+        list.sweep(&format!("clear_af1f_{name}"), CLOCK, scheme, file, clear_af1f.clone());
+    }
+    for (name, body) in [
+        ("one_bin", header(0xaf1f, 0, 1, 0)),
+        ("most_bins", header(16, 0, 65_535, 0)),
+        ("first_bin", header(16, 1, 5, 0)),
+        ("first_bin_af1f", header(0xaf1f, 0xffff, 5, 0)),
+        ("no_bins", header(16, 0, 0, 0)),
+        ("no_bins_af1f", header(0xaf1f, 1, 0, 0)),
+        ("more_bytes", [&clear16[..], &[0xff; 9]].concat()),
+        ("a_radial_unsaid", [&clear_af1f[..], &[0, 1, 0, 0, 0, 10, 0x50, 0]].concat()),
+        ("body_29", clear16[..29].to_vec()),
+        ("divider", [&[0, 7], &clear16[2..]].concat()),
+    ] {
+        list.class(&format!("clear_{name}"), body);
+    }
+    list.sweep("clear_step_0", CLOCK, Scheme::Halfword, halfword(-320, 0, 254), clear16.clone());
+    list.sweep("clear_first_bin_legacy", CLOCK, Scheme::Legacy(1.0), legacy(), header(16, 1, 5, 0));
+    list.add("clear_sym", Case::Sym { body: clear_af1f.clone() });
+    let nothing = Lent { azimuths: 0, codes: 0, physical: 0 };
+    let unlent =
+        |file: Vec<u8>, scheme: Scheme| Case::Sweep { clock: CLOCK, scheme, lent: nothing, file, body: clear16.clone() };
+    list.add("clear_lent_nothing", unlent(class(), Scheme::Class));
+    list.add("clear_gaps_lent_nothing", unlent(class(), Scheme::Class).with_marks(0));
+    list.gaps("clear_16", Scheme::Halfword, halfword(-320, 5, 254), clear16.clone());
+    list.gaps("clear_af1f", Scheme::Legacy(1.0), legacy(), clear_af1f.clone());
+    list.gaps("clear_first_bin", Scheme::Class, class(), header(16, 1, 5, 0));
+    list.add("clear_plan_lent_nothing", unlent(rain(), PRECIP).with_plan(0, vec![]));
+    list.add("clear_plan_lent_no_totals", unlent(rain(), PRECIP).with_plan(0, fields.clone()));
+    for (name, scheme, file, plan) in [
+        ("fields", PRECIP, rain(), fields.clone()),
+        ("strip", PRECIP, rain(), plans::bytes(&[Field(9), Field(3), Strip([0, 0, 1, 1])])),
+        ("second_strip", PRECIP, rain(), plans::bytes(&[Field(9), Strip([0, 0, 5, 0]), Field(3), Strip([0, 0, 1, 1])])),
+        ("strip_repeated", PRECIP, rain(), plans::bytes(&[Field(9), Strip([0, 0, 1, 1]), Field(9)])),
+        ("strip_cut", PRECIP, rain(), [plans::bytes(&[Field(9), Strip([0, 0, 1, 1])]), vec![1]].concat()),
+        ("class", Scheme::Class, class(), fields),
+    ] {
+        list.plan(&format!("clear_{name}"), scheme, file, clear_af1f.clone(), plan);
+    }
+    list.0
+}
+
 /// Rows of 130 cells, so two blocks of 64 and a rest, of every packet under every scheme that it allows.
 fn blocks(list: &mut List) {
     let bytes: Vec<u8> = (0..261).map(|i| (i * 7 % 256) as u8).collect();
@@ -758,6 +815,9 @@ pub fn list() -> Vec<(String, Case)> {
             3 => cases::accepted(rng),
             _ => cases::sweep(rng),
         };
+        if matches!(&case, Case::Sweep { body, .. } | Case::Sym { body } if model::is_clear(body)) {
+            continue; // not the Rust's to answer
+        }
         let line = case.line("");
         let answer = radish::answer(&case);
         let (group, most) = match (answer.refusal(), &case) {
@@ -779,6 +839,7 @@ pub fn list() -> Vec<(String, Case)> {
     list.extend(dates());
     list.extend(plans());
     list.extend(charges());
+    list.extend(clear());
     list
 }
 

@@ -1,12 +1,13 @@
 //! The answer that the port is held to: the Rust's, with what document 02 alters put into it by the model, and the model's to what
 //! the Rust has no function for.
 use crate::model;
-use lines::{Answer, Case, Packet, Refusal, Scheme};
+use lines::{Answer, Case, Lent, Packet, Refusal, Scheme};
 
 pub fn answer(case: &Case) -> Answer {
     match case {
         Case::Gaps { marks, .. } => gaps(case.clone().ordinary(), *marks),
         Case::Plan { totals, plan, .. } => planned(case.clone().ordinary(), *totals, plan),
+        Case::Sweep { body, .. } | Case::Sym { body } if model::is_clear(body) => clear(case.clone()),
         Case::Date { days } => model::date(*days).map_or_else(Answer::Refused, Answer::Date),
         Case::Charge { total, ends, rates } => model::charge(*total, ends, rates).unwrap_or_else(Answer::Refused),
         _ => altered(case, radish::answer(case)),
@@ -34,6 +35,26 @@ fn gaps(mut case: Case, marks: usize) -> Answer {
         made[radial] = 1;
     }
     Answer::Gaps(sweep, made)
+}
+
+/// M-107: the Rust is not asked about a clear scan. It is answered as the same body with a row would be, in buffers that are long
+/// enough, but for the row.
+fn clear(mut case: Case) -> Answer {
+    match &mut case {
+        Case::Sweep { body, lent, .. } => (*body, *lent) = (model::with_a_row(body), Lent::MOST),
+        Case::Sym { body } => *body = model::with_a_row(body),
+        _ => unreachable!(),
+    }
+    let mut given = answer(&case);
+    match &mut given {
+        Answer::Sweep(sweep) => {
+            model::without_rows(&mut sweep.picture);
+            sweep.physical.clear();
+        }
+        Answer::Picture(picture) => model::without_rows(picture),
+        _ => {}
+    }
+    given
 }
 
 /// M-104, from the ordinary reading: 10 for any scheme but precipitation where 10 stands, so before 9 and 36; and where a sweep is

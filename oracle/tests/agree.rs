@@ -20,6 +20,7 @@ fn the_rust_agrees_with_itself() {
     assert_eq!(compare.counts.differences, 0);
     assert_eq!(compare.counts.missing(), Vec::<String>::new());
     assert!(!compare.counts.plan_laws.contains(&0) && !compare.counts.charge_laws.contains(&0));
+    assert!(compare.counts.clear_alike > 0);
 }
 
 #[test]
@@ -30,6 +31,7 @@ fn a_case_survives_its_line() {
             cases::sweep(rng),
             cases::gaps(rng),
             cases::plan(rng),
+            cases::clear(rng),
             cases::field(rng),
             cases::block(rng),
             cases::xdr(rng),

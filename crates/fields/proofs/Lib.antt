@@ -16,3 +16,4 @@ pub mod Bounded
 pub mod Promises
 pub mod Order
 pub mod CodeRuns
+pub mod Clear

@@ -14,7 +14,7 @@ use Rattle.xdr.specs.Xdr.{int, float, string, stringBody, uint, word, short, pa
 use Rattle.symbology.specs.Answers.{joined, pictureOf}
 use Rattle.symbology.specs.Centre.{centre, centre28}
 use Rattle.symbology.specs.Rows.{rowOf, row16, words, push, levels, row28}
-use Rattle.symbology.specs.Symbology.{symbology, packetOf, radialPacket, packetHeader, firstBin, isEmpty, overBody, radialWalk, radial, frame, covered, countWrong, genericPacket, bodyShort, payload, productBlock, component, componentHead, xdrRadials, xdrRadial, xdrWalk, xdrFrame, only}
+use Rattle.symbology.specs.Symbology.{symbology, packetOf, radialPacket, packetHeader, firstBin, overBody, radialWalk, radial, frame, covered, countWrong, genericPacket, bodyShort, payload, productBlock, component, componentHead, xdrRadials, xdrRadial, xdrWalk, xdrFrame, only}
 use Rattle.sweep.specs.Sweep.{headOf, allowed, roomFor, finish, sweepOf}
 use lib.Ieee.{neg, eq}
 use lib.Ieee.Scale.{finite}
@@ -24,7 +24,7 @@ use Rattle.fields.specs.Fields.{rainOf, planned, totalsOf}
 use Rattle.fields.specs.Order.{Order}
 
 pub order : Order
-unfolding totalsOf rainOf planned planOf entriesFrom entriesIn recordAt badAt repeatedAt outsideAt fieldCount counts sum stripTotal ownTotal totals scalePair precipFamilyScale hwPair f32At neg eq finite sweepOf headOf finish allowed roomFor token cut firstToken same blank alphanumeric member all leading trimFront trimEnd messageHeader firstOf headerAt known codes scanTime pdbFields hwI32 hwI16 hwU16 fieldAt i32At i16At u32At u16At signed valueScalingLinearHw scaleFields declaredScale physicalOf valueOf pictureOf joined run more after-row _>>=_ _>>_ remaining u16 u32 unread radial-data refuse-if symbology packetOf radialPacket packetHeader firstBin isEmpty overBody radialWalk radial frame covered countWrong rowOf row16 centre centre28 genericPacket bodyShort payload productBlock component componentHead xdrRadials xdrRadial xdrWalk xdrFrame only int float string stringBody uint word short pass arrayCount pointer counted listHead elements further parameter row28 words push levels f32 f64 add div mul le rem ofInt ofBits
+unfolding totalsOf rainOf planned planOf entriesFrom entriesIn recordAt badAt repeatedAt outsideAt fieldCount counts sum stripTotal ownTotal totals scalePair precipFamilyScale hwPair f32At neg eq finite sweepOf headOf finish allowed roomFor token cut firstToken same blank alphanumeric member all leading trimFront trimEnd messageHeader firstOf headerAt known codes scanTime pdbFields hwI32 hwI16 hwU16 fieldAt i32At i16At u32At u16At signed valueScalingLinearHw scaleFields declaredScale physicalOf valueOf pictureOf joined run more after-row _>>=_ _>>_ remaining u16 u32 unread radial-data refuse-if symbology packetOf radialPacket packetHeader firstBin overBody radialWalk radial frame covered countWrong rowOf row16 centre centre28 genericPacket bodyShort payload productBlock component componentHead xdrRadials xdrRadial xdrWalk xdrFrame only int float string stringBody uint word short pass arrayCount pointer counted listHead elements further parameter row28 words push levels f32 f64 add div mul le rem ofInt ofBits
 order = record {
   scheme-first = refl;
   body-before-scheme = refl;
@@ -34,4 +34,6 @@ order = record {
   outside-next = refl;
   totals-last = refl;
   all-passed = refl;
+  clear-strip = refl;
+  clear-fields = refl;
 }

@@ -1,4 +1,4 @@
--- The order of the tests with a plan, on small inputs each of which fails several of them. And one plan that is accepted.
+-- The order of the tests with a plan, on small inputs each of which fails several of them. And plans that are accepted.
 use Prim.Native.Nat.{ℕ}
 use mathlib.Core.List.{List, [], _∷_, _++_}
 use mathlib.Core.Path.{_≡_}
@@ -9,7 +9,7 @@ use Rattle.bytes.specs.Result.{accepted, refused, then}
 use Rattle.bytes.specs.declared.error.Buffer.the-variants as Buffer
 use Rattle.scale.specs.declared.physical.Scheme.{Scheme}
 use Rattle.scale.specs.declared.physical.Scheme.the-variants as Scheme
-use Rattle.symbology.specs.Table.{two}
+use Rattle.symbology.specs.Table.{two, noRadials}
 use Rattle.sweep.specs.Order.{upTo21, product, body16}
 use Rattle.fields.specs.Fields.{totalsOf}
 
@@ -44,3 +44,6 @@ pub record Order : Type 0 where
   pub totals-last : totalsOf precipitation rain 0 body16 (field7 ++ strip 0) 1 2 2 0 ≡ refused (kind 36 (buffer Buffer.Totals ∷ []))
   -- room enough: the codes 7 and 9 count 5 and 7, three times
   pub all-passed : then (totalsOf precipitation rain 0 body16 (field7 ++ strip 0) 1 2 2 1) (λ t. accepted (t .totals)) ≡ accepted (36 ∷ [])
+  -- a clear scan, with no room for a picture: a strip is 39, also where there is no room for totals; a field has the total 0
+  pub clear-strip : totalsOf precipitation rain 0 (noRadials 16 0 5 []) (field7 ++ strip 0) 0 0 0 0 ≡ refused (kind 39 (nat 5 ∷ []))
+  pub clear-fields : then (totalsOf precipitation rain 0 (noRadials 0xAF1F 0 5 []) field7 0 0 0 1) (λ t. accepted (t .totals)) ≡ accepted (0 ∷ [])

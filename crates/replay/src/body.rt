@@ -59,6 +59,7 @@ fn print_geometry(ints: &[u64], floats: &[f64]) {
 
 fn print_azimuths(azimuths: &[f64], n: usize) {
     say(b" az=");
+    crate::print::none_of(n);
     let mut i = 0usize;
     while i < azimuths.len() {
         if n <= i {
@@ -71,6 +72,7 @@ fn print_azimuths(azimuths: &[f64], n: usize) {
 
 fn print_codes(codes: &[u16], n: usize) {
     say(b" codes=");
+    crate::print::none_of(n);
     let mut i = 0usize;
     while i < codes.len() {
         if n <= i {

@@ -44,11 +44,16 @@ fn wide32(x: u32) -> u64 {
     x as u64
 }
 
-// Bytes in hexadecimal; `-` where there are none.
-pub fn hex_bytes(s: &[u8]) {
-    if s.len() == 0 {
+// What stands for an array of no places.
+pub fn none_of(n: usize) {
+    if n == 0 {
         say(b"-");
     }
+}
+
+// Bytes in hexadecimal; `-` where there are none.
+pub fn hex_bytes(s: &[u8]) {
+    none_of(s.len());
     let mut i = 0usize;
     while i < s.len() {
         hex(wide8(s[i]), 2);

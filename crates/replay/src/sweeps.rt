@@ -30,6 +30,7 @@ fn print_scale(ints: &[u64], floats: &[f64]) {
 
 fn print_physical(physical: &[f32], n: usize) {
     say(b" phys=");
+    crate::print::none_of(n);
     let mut i = 0usize;
     while i < physical.len() {
         if n <= i {
@@ -71,9 +72,7 @@ fn print_marks(marks: &[u8], n: usize) {
 // Numbers with commas between them; `-` where there are none.
 fn print_totals(totals: &[u64], n: usize) {
     say(b" totals=");
-    if n == 0 {
-        say(b"-");
-    }
+    crate::print::none_of(n);
     let mut i = 0usize;
     while i < totals.len() {
         if n <= i {

@@ -10,6 +10,7 @@ use symbology::figures::Geometry;
 use symbology::figures::Packet;
 ghost use mathlib.Core.Path.{_≡_};
 ghost use Prim.Native.Nat.{_≤_, min};
+ghost use lib.Dec.{eqb};
 ghost use Rattle.show.specs.Gaps.{oneIf, marked as markedIn, gapAt};
 
 // A line's name, in a column of its own.
@@ -295,6 +296,13 @@ fn print_extent(radials: usize, bins: usize) {
     crate::text::say(b" bins\n");
 }
 
+// No radials: the radar has seen nothing.
+fn is_clear(radials: usize) -> bool
+    ensures { λ r. ⌜ r ≡ eqb radials 0 ⌝ }
+{
+    radials == 0
+}
+
 // A head alone.
 pub fn print_head(h: Head, file: &[u8]) {
     print_token(file, h.token);
@@ -319,6 +327,10 @@ pub fn print(
     let figures = s.figures;
     print_figures(figures);
     print_gaps(marks);
+    if is_clear(figures.n_radials) {
+        crate::text::say(b"\nclear scan: the radar has seen nothing\n");
+        return;
+    }
     print_extent(figures.n_radials, figures.n_bins);
     if is_over(figures.n_radials, figures.n_bins, physical.len()) {
         crate::text::say(b"values are worked out for the first ");

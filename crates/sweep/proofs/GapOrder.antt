@@ -14,11 +14,11 @@ use Rattle.xdr.specs.Xdr.{int, float, string, stringBody, uint, word, short, pa
 use Rattle.symbology.specs.Answers.{joined, pictureOf, shown, gapPictureOf}
 use Rattle.symbology.specs.Centre.{centre, centre28}
 use Rattle.symbology.specs.Rows.{rowOf, row16, rowAF1F, reach, cells, words, push, levels, row28}
-use Rattle.symbology.specs.Symbology.{symbology, packetOf, radialPacket, packetHeader, firstBin, isEmpty, overBody, radialWalk, radial, frame, covered, countWrong, genericPacket, bodyShort, payload, productBlock, component, componentHead, xdrRadials, xdrRadial, xdrWalk, xdrFrame, only}
+use Rattle.symbology.specs.Symbology.{symbology, packetOf, radialPacket, packetHeader, firstBin, overBody, radialWalk, radial, frame, covered, countWrong, genericPacket, bodyShort, payload, productBlock, component, componentHead, xdrRadials, xdrRadial, xdrWalk, xdrFrame, only}
 use Rattle.sweep.specs.Sweep.{headOf, allowed, roomFor, finish, sweepOf}
 use Rattle.sweep.specs.GapSweep.{gapSweepOf, gapFinish, blanked}
 use Rattle.sweep.specs.GapOrder.{GapOrder}
 
 pub gap-order : GapOrder
-unfolding gapSweepOf gapFinish blanked gapPictureOf shown gaps rowAF1F reach cells sweepOf headOf finish allowed roomFor token cut firstToken same blank alphanumeric member all leading trimFront trimEnd messageHeader firstOf headerAt known codes scanTime pdbFields hwI32 hwI16 hwU16 fieldAt i32At i16At u32At u16At signed valueScalingLinearHw scaleFields declaredScale physicalOf valueOf pictureOf joined run more after-row _>>=_ _>>_ remaining u16 u32 unread radial-data refuse-if symbology packetOf radialPacket packetHeader firstBin isEmpty overBody radialWalk radial frame covered countWrong rowOf row16 centre centre28 genericPacket bodyShort payload productBlock component componentHead xdrRadials xdrRadial xdrWalk xdrFrame only int float string stringBody uint word short pass arrayCount pointer counted listHead elements further parameter row28 words push levels f32 f64 add div mul le rem ofInt ofBits
-gap-order = record { physical-first = refl; marks-last = refl; ordinary = refl; gap = refl }
+unfolding gapSweepOf gapFinish blanked gapPictureOf shown gaps rowAF1F reach cells sweepOf headOf finish allowed roomFor token cut firstToken same blank alphanumeric member all leading trimFront trimEnd messageHeader firstOf headerAt known codes scanTime pdbFields hwI32 hwI16 hwU16 fieldAt i32At i16At u32At u16At signed valueScalingLinearHw scaleFields declaredScale physicalOf valueOf pictureOf joined run more after-row _>>=_ _>>_ remaining u16 u32 unread radial-data refuse-if symbology packetOf radialPacket packetHeader firstBin overBody radialWalk radial frame covered countWrong rowOf row16 centre centre28 genericPacket bodyShort payload productBlock component componentHead xdrRadials xdrRadial xdrWalk xdrFrame only int float string stringBody uint word short pass arrayCount pointer counted listHead elements further parameter row28 words push levels f32 f64 add div mul le rem ofInt ofBits
+gap-order = record { physical-first = refl; marks-last = refl; ordinary = refl; gap = refl; clear = refl }

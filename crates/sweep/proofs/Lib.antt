@@ -21,4 +21,5 @@ pub mod GapRefusals
 pub mod GapDamage
 pub mod TwoGapRuns
 pub mod GapCalls
+pub mod Clear
 pub mod GapOrder

@@ -8,18 +8,18 @@ use Rattle.bytes.specs.Reading.{run, more, after-row, _>>=_, _>>_, remaining, u
 use Rattle.bytes.specs.Text.{same, member, all, leading, trimFront, trimEnd}
 use Rattle.head.specs.Header.{token, cut, firstToken, blank, alphanumeric, messageHeader, firstOf, headerAt, scanTime}
 use Rattle.head.specs.Pdb.{pdbFields, hwI32, hwI16, hwU16, fieldAt}
-use Rattle.scale.specs.Pdb.{valueScalingLinearHw}
+use Rattle.scale.specs.Pdb.{valueScalingLinearHw, thresholdPlace}
 use Rattle.scale.specs.Physical.{scaleFields, declaredScale, physicalOf, valueOf}
 use Rattle.xdr.specs.Xdr.{int, float, string, stringBody, uint, word, short, pass, arrayCount, pointer, counted, listHead, elements, further, parameter}
 use Rattle.symbology.specs.Answers.{joined, pictureOf}
 use Rattle.symbology.specs.Centre.{centre, centre28}
 use Rattle.symbology.specs.Rows.{rowOf, row16, words, push, levels, row28}
-use Rattle.symbology.specs.Symbology.{symbology, packetOf, radialPacket, packetHeader, firstBin, isEmpty, overBody, radialWalk, radial, frame, covered, countWrong, genericPacket, bodyShort, payload, productBlock, component, componentHead, xdrRadials, xdrRadial, xdrWalk, xdrFrame, only}
+use Rattle.symbology.specs.Symbology.{symbology, packetOf, radialPacket, packetHeader, firstBin, overBody, radialWalk, radial, frame, covered, countWrong, genericPacket, bodyShort, payload, productBlock, component, componentHead, xdrRadials, xdrRadial, xdrWalk, xdrFrame, only}
 use Rattle.sweep.specs.Sweep.{headOf, allowed, roomFor, finish, sweepOf}
 use Rattle.sweep.specs.Order.{Order}
 
 pub order : Order
-unfolding sweepOf headOf finish allowed roomFor token cut firstToken same blank alphanumeric member all leading trimFront trimEnd messageHeader firstOf headerAt known codes scanTime pdbFields hwI32 hwI16 hwU16 fieldAt i32At i16At u32At u16At signed valueScalingLinearHw scaleFields declaredScale physicalOf valueOf pictureOf joined run more after-row _>>=_ _>>_ remaining u16 u32 unread radial-data refuse-if symbology packetOf radialPacket packetHeader firstBin isEmpty overBody radialWalk radial frame covered countWrong rowOf row16 centre centre28 genericPacket bodyShort payload productBlock component componentHead xdrRadials xdrRadial xdrWalk xdrFrame only int float string stringBody uint word short pass arrayCount pointer counted listHead elements further parameter row28 words push levels f32 f64 add div mul le rem ofInt ofBits
+unfolding sweepOf headOf finish allowed roomFor token cut firstToken same blank alphanumeric member all leading trimFront trimEnd messageHeader firstOf headerAt known codes scanTime pdbFields hwI32 hwI16 hwU16 fieldAt i32At i16At u32At u16At signed valueScalingLinearHw thresholdPlace scaleFields declaredScale physicalOf valueOf pictureOf joined run more after-row _>>=_ _>>_ remaining u16 u32 unread radial-data refuse-if symbology packetOf radialPacket packetHeader firstBin overBody radialWalk radial frame covered countWrong rowOf row16 centre centre28 genericPacket bodyShort payload productBlock component componentHead xdrRadials xdrRadial xdrWalk xdrFrame only int float string stringBody uint word short pass arrayCount pointer counted listHead elements further parameter row28 words push levels f32 f64 add div mul le rem ofInt ofBits
 order = record {
   time-before-scale = refl;
   scale-before-body = refl;
@@ -30,4 +30,10 @@ order = record {
   codes-next = refl;
   physical-last = refl;
   all-passed = refl;
+  clear-16 = refl;
+  clear-af1f = refl;
+  clear-packet = refl;
+  clear-first-bin = refl;
+  clear-step = refl;
+  no-bins = refl;
 }

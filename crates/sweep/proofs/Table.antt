@@ -12,11 +12,11 @@ use Rattle.xdr.specs.Xdr.{string, uint, word, short}
 use Rattle.symbology.specs.Answers.{joined, pictureOf}
 use Rattle.symbology.specs.Centre.{centre, widthDegrees}
 use Rattle.symbology.specs.Rows.{rowOf, row16, rowAF1F, reach, cells}
-use Rattle.symbology.specs.Symbology.{symbology, packetOf, radialPacket, packetHeader, firstBin, isEmpty, overBody, radialWalk, radial, frame, covered, countWrong, genericPacket, bodyShort, payload, productBlock}
+use Rattle.symbology.specs.Symbology.{symbology, packetOf, radialPacket, packetHeader, firstBin, overBody, radialWalk, radial, frame, covered, countWrong, genericPacket, bodyShort, payload, productBlock}
 use Rattle.sweep.specs.Table.{Table}
 
 pub table : Table
-unfolding pictureOf joined run more after-row _>>=_ _>>_ remaining u16 u32 unread radial-data refuse-if u16At u32At signed symbology packetOf radialPacket packetHeader firstBin isEmpty overBody radialWalk radial frame covered countWrong rowOf row16 rowAF1F reach cells centre widthDegrees genericPacket bodyShort payload productBlock string uint word short scanTime f32 f64 add div mul neg ofInt
+unfolding pictureOf joined run more after-row _>>=_ _>>_ remaining u16 u32 unread radial-data refuse-if u16At u32At signed symbology packetOf radialPacket packetHeader firstBin overBody radialWalk radial frame covered countWrong rowOf row16 rowAF1F reach cells centre widthDegrees genericPacket bodyShort payload productBlock string uint word short scanTime f32 f64 add div mul neg ofInt
 table = record {
   p1 = refl;
   p2 = refl;

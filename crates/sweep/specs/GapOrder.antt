@@ -8,12 +8,13 @@ use Rattle.bytes.specs.Refusal.{kind, nat, buffer}
 use Rattle.bytes.specs.Result.{accepted, refused}
 use Rattle.bytes.specs.declared.error.Buffer.the-variants as Buffer
 use Rattle.scale.specs.declared.physical.Scheme.the-variants as Scheme
-use Rattle.symbology.specs.Table.{oneRadial}
+use Rattle.symbology.specs.Table.{oneRadial, noRadials}
 use Rattle.symbology.specs.declared.figures.Packet.the-variants.{PacketAf1f}
 use Rattle.symbology.specs.declared.figures.Geometry.the-variants.{RangeScale}
 use Rattle.sweep.specs.Sweep.{sweepOf}
 use Rattle.sweep.specs.GapSweep.{gapSweepOf}
-use Rattle.sweep.specs.Order.{product, body16, plainSweep}
+use Rattle.sweep.specs.Clear.{unmarkedSweep}
+use Rattle.sweep.specs.Order.{product, body16, plainSweep, noRows}
 
 -- P8: runs of 3 and 3 for 5 bins
 abbrev pub broken : List ℕ
@@ -33,3 +34,5 @@ pub record GapOrder : Type 0 where
         physical = nan ∷ nan ∷ nan ∷ nan ∷ nan ∷ [];
         marks = 1 ∷ [];
       })
+  -- a clear scan has no marks, and asks for no room
+  pub clear : gapSweepOf Scheme.Class product 0 (noRadials 0xAF1F 0 5 []) 0 0 0 0 ≡ accepted (unmarkedSweep (noRows PacketAf1f))

@@ -5,4 +5,5 @@ pub mod InWords
 pub mod Table
 pub mod GapSweep
 pub mod WithGaps
+pub mod Clear
 pub mod GapOrder

@@ -1,5 +1,5 @@
 -- The order of the tests, on small inputs each of which fails several of them: "token, header, fields .., scan time (4, then 6, then 5), scale
--- fields, symbology, 10, 9, 36". And one sweep that is accepted, whole.
+-- fields, symbology, 10, 9, 36". And sweeps that are accepted, whole: one of a row, and clear scans (document 02, M-107).
 use Prim.Native.Nat.{ℕ, _^_, _+_}
 use mathlib.Core.List.{List, [], _∷_, _++_}
 use mathlib.Core.Path.{_≡_}
@@ -11,12 +11,13 @@ use Rattle.bytes.specs.Result.{accepted, refused}
 use Rattle.bytes.specs.declared.error.Buffer.the-variants as Buffer
 use Rattle.scale.specs.declared.physical.Scheme.the-variants as Scheme
 use Rattle.scale.specs.declared.physical.Declared.the-variants as Declared
-use Rattle.symbology.specs.Table.{two, oneRadial, generic, noList, twoXdrRadials}
-use Rattle.symbology.specs.declared.figures.Packet.the-variants.{Packet16}
+use Rattle.symbology.specs.Table.{two, oneRadial, noRadials, generic, noList, twoXdrRadials}
+use Rattle.symbology.specs.declared.figures.Packet.{Packet}
+use Rattle.symbology.specs.declared.figures.Packet.the-variants.{Packet16, PacketAf1f}
 use Rattle.symbology.specs.declared.figures.Geometry.the-variants.{RangeScale}
 use Rattle.symbology.specs.declared.figures.Figures.{Figures}
 use Rattle.sweep.specs.declared.sweep.Sweep.{Sweep}
-use Rattle.sweep.specs.Sweep.{sweepOf}
+use Rattle.sweep.specs.Sweep.{Accepted, sweepOf}
 
 -- "N0BLOT" and a separator, a message header of code 94, and the fields 1 to 21 from byte 27 on: -1, zeros, and the day (field 12)
 abbrev pub upTo21 : ℕ → List ℕ
@@ -57,6 +58,15 @@ plainSweep f =
       figures = f;
     }
 
+-- with the 32 bytes of a legacy scale
+abbrev pub withLevels : List ℕ
+withLevels = upTo21 1 ++ replicate 32 0
+
+-- what it gives for a clear scan of five bins
+abbrev pub noRows : Packet → Accepted
+noRows packet =
+    record { sweep = plainSweep (record { packet = packet; «n_radials» = 0; «n_bins» = 5; geometry = RangeScale 1 }); azimuths = []; codes = []; physical = [] }
+
 pub record Order : Type 0 where
   -- day 0 and a clock out of range, without field 22: 4
   pub time-before-scale : sweepOf Scheme.Halfword (upTo21 0) (2 ^ 40 + 1) [] 0 0 0 ≡ refused (kind 4 (nat 0 ∷ nat 0 ∷ []))
@@ -80,3 +90,13 @@ pub record Order : Type 0 where
         codes = 7 ∷ 9 ∷ [];
         physical = f32 7 1 ∷ f32 9 1 ∷ [];
       })
+  -- clear scans, with no room at all
+  pub clear-16 : sweepOf Scheme.Class product 0 (noRadials 16 0 5 []) 0 0 0 ≡ accepted (noRows Packet16)
+  pub clear-af1f : sweepOf Scheme.Class product 0 (noRadials 0xAF1F 1 5 (1 ∷ [])) 0 0 0 ≡ accepted (noRows PacketAf1f)
+  -- packet 16 under the legacy scheme: 10, after 17
+  pub clear-packet : sweepOf (Scheme.Legacy (f32 1 1)) withLevels 0 (noRadials 16 0 5 []) 0 0 0 ≡ refused (kind 10 [])
+  pub clear-first-bin : sweepOf (Scheme.Legacy (f32 1 1)) withLevels 0 (noRadials 16 1 5 []) 0 0 0 ≡ refused (kind 17 (nat 1 ∷ []))
+  -- the step 0: 9
+  pub clear-step : sweepOf Scheme.Halfword product 0 (noRadials 16 0 5 []) 0 0 0 ≡ refused (kind 9 (float (f32 0 10) ∷ []))
+  -- no bins either: 15
+  pub no-bins : sweepOf Scheme.Class product 0 (noRadials 16 1 0 []) 0 0 0 ≡ refused (kind 15 (nat 0 ∷ nat 0 ∷ []))

@@ -14,7 +14,7 @@ use Rattle.bytes.specs.Result.{accepted, refused}
 use Rattle.bytes.specs.Reading.{_>>=_, _>>_, remaining, u16, unread, Ended, passed, halted, outcome, walk}
 use Rattle.bytes.proofs.Readings.{walk-checks, walk-checks-then, then-passed}
 use Rattle.symbology.specs.Centre.{centre, widthDegrees}
-use Rattle.symbology.specs.Symbology.{counts, Header, covered, countWrong, frame, firstBin, isEmpty, overBody, packetHeader}
+use Rattle.symbology.specs.Symbology.{counts, Header, covered, countWrong, frame, firstBin, overBody, packetHeader}
 use Rattle.symbology.specs.Walk.{beamSpan, placed, firstOf}
 use Rattle.symbology.specs.declared.figures.Packet.{Packet}
 use Rattle.symbology.specs.declared.figures.Packet.the-variants.{Packet16, PacketAf1f, Packet28}
@@ -65,7 +65,7 @@ first-is Packet28 s old = absurd (old refl)
 module _ (packet : Packet) (s : List ℕ) where
   abbrev Checked : Ended Header
   Checked =
-      cond (isEmpty (u16At s 28) (u16At s 20)) (halted (kind 15 (nat (u16At s 28) ∷ nat (u16At s 20) ∷ [])) 30)
+      cond (eqb (u16At s 20) 0) (halted (kind 15 (nat (u16At s 28) ∷ nat (u16At s 20) ∷ [])) 30)
       (cond (ltb 4000000 (u16At s 28 * u16At s 20)) (halted (kind 16 (nat (u16At s 28) ∷ nat (u16At s 20) ∷ nat (u16At s 28 * u16At s 20) ∷ nat 4000000 ∷ [])) 30)
       (cond (not (eqb (firstOf packet s) 0)) (halted (kind 17 (nat (firstOf packet s) ∷ [])) 30)
       (cond (overBody packet (u16At s 28) (u16At s 20) (length s - 30))
@@ -91,24 +91,24 @@ module _ (packet : Packet) (s : List ℕ) (old : packet ≡ Packet28 → ⊥) wh
     answer : outcome (walk (packetHeader packet) s 18) ≡ outcome (Checked packet s)
     answer = let t : 12 ≤ length s - 18 = omega arith in rw (header-is packet s old) (simp (le-ltb _ _ t))
 
-    module _ {radials bins : ℕ} (re : radials ≡ u16At s 28) (be : bins ≡ u16At s 20) {empty : Bool} (em : empty ≡ isEmpty radials bins) where
-      pub header-empty : empty ≡ true → refused (kind 15 (nat radials ∷ nat bins ∷ [])) ≡ outcome (walk (packetHeader packet) s 18)
-      header-empty h = rw (answer, ← re, ← be, ← em) (simp h)
+    module _ {radials bins : ℕ} (re : radials ≡ u16At s 28) (be : bins ≡ u16At s 20) where
+      pub header-empty : bins ≡ 0 → refused (kind 15 (nat radials ∷ nat bins ∷ [])) ≡ outcome (walk (packetHeader packet) s 18)
+      header-empty h = rw (answer, ← re, ← be) (simp (eq-eqb _ _ h))
 
-      module _ (some : empty ≡ false) {cells : ℕ} (ce : cells ≡ radials * bins) where
+      module _ (some : bins ≡ 0 → ⊥) {cells : ℕ} (ce : cells ≡ radials * bins) where
         pub header-large : 4000000 < cells
             → refused (kind 16 (nat radials ∷ nat bins ∷ nat cells ∷ nat 4000000 ∷ [])) ≡ outcome (walk (packetHeader packet) s 18)
-        header-large h = rw (answer, ← re, ← be, ← em, ← ce) (simp (some, lt-ltb _ _ h))
+        header-large h = rw (answer, ← re, ← be, ← ce) (simp (ne-eqb _ _ some, lt-ltb _ _ h))
 
         module _ (small : cells ≤ 4000000) {first : ℕ} (fe : first ≡ firstOf packet s) where
           pub header-first : (first ≡ 0 → ⊥) → refused (kind 17 (nat first ∷ [])) ≡ outcome (walk (packetHeader packet) s 18)
-          header-first h = rw (answer, ← re, ← be, ← em, ← ce, ← fe) (simp (some, le-ltb _ _ small, ne-eqb _ _ h))
+          header-first h = rw (answer, ← re, ← be, ← ce, ← fe) (simp (ne-eqb _ _ some, le-ltb _ _ small, ne-eqb _ _ h))
 
           module _ (zero : first ≡ 0) {room : ℕ} (ro : room ≡ length s - 30) {over : Bool} (ov : over ≡ overBody packet radials bins room) where
             pub header-over : {needed : ℕ} → over ≡ true → needed ≡ radials * (6 + bins)
                 → refused (kind 18 (nat radials ∷ nat bins ∷ nat needed ∷ nat room ∷ [])) ≡ outcome (walk (packetHeader packet) s 18)
-            header-over h k = rw (answer, ← re, ← be, ← em, ← ce, ← fe, ← ro, ← ov) (simp (some, le-ltb _ _ small, eq-eqb _ _ zero, h, k))
+            header-over h k = rw (answer, ← re, ← be, ← ce, ← fe, ← ro, ← ov) (simp (ne-eqb _ _ some, le-ltb _ _ small, eq-eqb _ _ zero, h, k))
 
             pub header-whole : {range : ℕ} → over ≡ false → range ≡ u16At s 26
                 → accepted (record { radials = radials; bins = bins; range = range }) ≡ outcome (walk (packetHeader packet) s 18)
-            header-whole h k = rw (answer, ← re, ← be, ← em, ← ce, ← fe, ← ro, ← ov) (simp (some, le-ltb _ _ small, eq-eqb _ _ zero, h, k))
+            header-whole h k = rw (answer, ← re, ← be, ← ce, ← fe, ← ro, ← ov) (simp (ne-eqb _ _ some, le-ltb _ _ small, eq-eqb _ _ zero, h, k))

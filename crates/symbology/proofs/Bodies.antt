@@ -21,7 +21,7 @@ use Rattle.bytes.proofs.Readings.{part-slice, past-test}
 use Rattle.bytes.proofs.Runs.{then-then, Plain, plain-then, plain-by, plain-give, plain-check, plain-remaining, plain-u16, plain-unread, shifted, run-within}
 use Rattle.symbology.proofs.Modes.{mode-stop, mode-passed, mode-halted, mode-checks}
 use Rattle.xdr.specs.Xdr.{atLeast0}
-use Rattle.symbology.specs.Symbology.{Sweep, Header, frame, radial, radialWalk, firstBin, isEmpty, overBody, packetHeader, radialPacket, payload, bodyShort, genericPacket, packetOf, symbology}
+use Rattle.symbology.specs.Symbology.{Sweep, Header, frame, radial, radialWalk, firstBin, overBody, packetHeader, radialPacket, payload, bodyShort, genericPacket, packetOf, symbology}
 use Rattle.symbology.specs.Walk.{inMode, beamSpan, anyFrame, anyRadial, anyWalk, firstOf, sweepFrom, Planned, Plotted, Plots, inPart, Plans}
 use Rattle.symbology.proofs.Beams.{header-is}
 use Rattle.symbology.proofs.Levels.{signed-low, signed-high, u32-small}
@@ -94,7 +94,7 @@ module _ (packet : Packet) (s : List ℕ) (old : packet ≡ Packet28 → ⊥) wh
   headed-by : {h : Header} {q : ℕ} → passed h q ≡ walk (packetHeader packet) s 18 → Headed packet s h
   headed-by {h} {q} e =
       let h₁ = past-test (ltb (length s - 18) 12) _ _ _ (e ∙ header-is packet s old) in
-      let h₂ = past-test (isEmpty (u16At s 28) (u16At s 20)) _ _ _ (h₁ .1) in
+      let h₂ = past-test (eqb (u16At s 20) 0) _ _ _ (h₁ .1) in
       let h₃ = past-test (ltb 4000000 (u16At s 28 * u16At s 20)) _ _ _ (h₂ .1) in
       let h₄ = past-test (not (eqb (firstOf packet s) 0)) _ _ _ (h₃ .1) in
       let h₅ = past-test (overBody packet (u16At s 28) (u16At s 20) (length s - 30)) _ _ _ (h₄ .1) in
@@ -118,7 +118,7 @@ module _ (packet : Packet) (s : List ℕ) (old : packet ≡ Packet28 → ⊥) wh
     unfolding u16At
     radial-small bytes = (omega (arith, headed .radials-are, bytes 28, bytes 29), headed .cells)
 
-    radial-run : (m : Bool) → run (inMode m (radialPacket packet)) s 18 ≡ sweepFrom (figuresOf packet h) (run (inMode m (anyWalk packet (h .radials) (h .bins) (h .radials) 0)) s 30)
+    pub radial-run : (m : Bool) → run (inMode m (radialPacket packet)) s 18 ≡ sweepFrom (figuresOf packet h) (run (inMode m (anyWalk packet (h .radials) (h .bins) (h .radials) 0)) s 30)
     unfolding radialPacket
     radial-run m =
         mode-passed _ _ (packetHeader packet) (plain-header packet) s 18 (headed .ends)

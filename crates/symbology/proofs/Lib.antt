@@ -34,3 +34,4 @@ pub mod Table
 pub mod Decode
 pub mod GapDecode
 pub mod Bodies
+pub mod Clear

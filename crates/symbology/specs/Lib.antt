@@ -12,3 +12,4 @@ pub mod Damage
 pub mod Places
 pub mod Words
 pub mod Gaps
+pub mod Clear

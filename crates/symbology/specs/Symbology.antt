@@ -82,10 +82,6 @@ firstBin PacketAf1f = do
   give 0
 firstBin Packet28 = give 0
 
--- 15: a zero count
-unfoldable pub isEmpty : ℕ → ℕ → Bool
-isEmpty radials bins = eqb radials 0 || eqb bins 0
-
 -- 18, of packet 16 alone
 unfoldable pub overBody : Packet → ℕ → ℕ → ℕ → Bool
 overBody Packet16 radials bins room = ltb room (radials * (6 + bins))
@@ -97,14 +93,14 @@ pub record Header : Type 0 where
   pub bins : ℕ
   pub range : ℕ
 
--- from byte 20 on: 15, 16; packet 16 also 17, 18
+-- from byte 20 on: 15 for bins 0, 16; packet 16 also 17, 18. A body of no radials is a clear scan: a sweep of no rows
 abbrev pub counts : Packet → ℕ → Flat Header
 counts packet first = do
   bins ← u16
   unread 4
   range ← u16
   radials ← u16
-  refuse-if (isEmpty radials bins) (kind 15 (nat radials ∷ nat bins ∷ []))
+  refuse-if (eqb bins 0) (kind 15 (nat radials ∷ nat bins ∷ []))
   refuse-if (ltb 4000000 (radials * bins)) (kind 16 (nat radials ∷ nat bins ∷ nat (radials * bins) ∷ nat 4000000 ∷ []))
   refuse-if (not (eqb first 0)) (kind 17 (nat first ∷ []))
   room ← remaining

@@ -1,4 +1,4 @@
--- Bodies with their pictures or refusals: a zero run in AF1F, and packet 28, also its centres. (Document 01's table, P1 to P13, is the sweep's.)
+-- Bodies with their pictures or refusals: a zero run in AF1F, clear scans, and packet 28, also its centres. (Document 01's table, P1 to P13, is the sweep's.)
 use Prim.Native.Nat.{ℕ, _/_, _%_, _+_}
 use mathlib.Core.List.{List, [], _∷_, _++_}
 use mathlib.Core.Path.{_≡_}
@@ -10,9 +10,10 @@ use Rattle.bytes.specs.Result.{Result, accepted, refused}
 use Rattle.bytes.specs.Reading.{Piece, as-number, as-unread, as-data, pieces}
 use Rattle.symbology.specs.Answers.{Picture, pictureOf}
 use Rattle.symbology.specs.Centre.{centre28}
+use Rattle.symbology.specs.Clear.{emptyPicture}
 use Rattle.symbology.specs.Symbology.{symbology}
 use Rattle.symbology.specs.declared.figures.Packet.{Packet}
-use Rattle.symbology.specs.declared.figures.Packet.the-variants.{PacketAf1f, Packet28}
+use Rattle.symbology.specs.declared.figures.Packet.the-variants.{Packet16, PacketAf1f, Packet28}
 use Rattle.symbology.specs.declared.figures.Geometry.the-variants.{RangeScale, Gates}
 
 -- a halfword
@@ -35,6 +36,23 @@ onePicture packet bins centre row =
 -- a run of length 0 adds nothing, and the row goes on after it
 pub record Runs : Type 0 where
   pub zero-run : pictureOf (oneRadial 0xAF1F 5 (2, 0, 10) (0x31 ∷ 0x07 ∷ 0x25 ∷ 0x00 ∷ [])) ≡ onePicture PacketAf1f 5 (f64 5 10) (1 ∷ 1 ∷ 1 ∷ 5 ∷ 5 ∷ [])
+
+-- ---- clear scans
+
+-- a body of packet 16 or AF1F with no radials: its first bin, bins, range scale 1, and bytes after its header
+abbrev pub noRadials : ℕ → ℕ → ℕ → List ℕ → List ℕ
+noRadials code first bins rest = start code ++ two first ++ two bins ++ replicate 4 0 ++ two 1 ++ two 0 ++ rest
+
+pub record ClearScans : Type 0 where
+  pub packet-16 : pictureOf (noRadials 16 0 5 []) ≡ accepted (emptyPicture Packet16 5 1)
+  pub packet-af1f : pictureOf (noRadials 0xAF1F 0 5 []) ≡ accepted (emptyPicture PacketAf1f 5 1)
+  -- bytes after the header are unread, and AF1F's bytes 18-19
+  pub later-bytes : pictureOf (noRadials 0xAF1F 1 5 (1 ∷ 2 ∷ 3 ∷ [])) ≡ accepted (emptyPicture PacketAf1f 5 1)
+  -- bins 0 is still 15, whatever the radials
+  pub is-15 : pictureOf (noRadials 16 1 0 []) ≡ refused (kind 15 (nat 0 ∷ nat 0 ∷ []))
+  pub is-15-too : pictureOf (oneRadial 0xAF1F 0 (0, 0, 10) []) ≡ refused (kind 15 (nat 1 ∷ nat 0 ∷ []))
+  -- packet 16 whose first bin is 1
+  pub is-17 : pictureOf (noRadials 16 1 5 []) ≡ refused (kind 17 (nat 1 ∷ []))
 
 -- ---- packet 28
 

@@ -9,7 +9,7 @@ ghost use lib.Dec.{eqb, ltb};
 ghost use lib.ListN.{length};
 ghost use Rattle.bytes.specs.Bytes.{u16At};
 ghost use Rattle.bytes.specs.Reading.{walk, outcome};
-ghost use Rattle.symbology.specs.Symbology.{covered, countWrong, isEmpty, overBody, packetHeader};
+ghost use Rattle.symbology.specs.Symbology.{covered, countWrong, overBody, packetHeader};
 ghost use Rattle.symbology.specs.Walk.{beamSpan, placeOf, placed, headerOf, firstOf};
 
 // The most cells that a picture may have, of any packet.
@@ -131,16 +131,6 @@ fn product(a: usize, b: usize) -> usize
     a * b
 }
 
-// 15: a zero count.
-fn is_empty(n_radials: usize, n_bins: usize) -> bool
-    ensures { λ r. ⌜ r ≡ isEmpty «n_radials» «n_bins» ⌝ }
-{
-    if n_radials == 0 {
-        return true;
-    }
-    n_bins == 0
-}
-
 // 18, of packet 16 alone.
 fn is_over_body(packet: Packet, n_radials: usize, n_bins: usize, room: usize) -> bool
     requires { ⌜ («n_radials» < 65536) × («n_bins» < 65536) ⌝ }
@@ -153,7 +143,7 @@ fn is_over_body(packet: Packet, n_radials: usize, n_bins: usize, room: usize) ->
     }
 }
 
-// The packet header from byte 18 on: 12, 15, 16; packet 16 also 17, 18.
+// The packet header from byte 18 on: 12, 15, 16; packet 16 also 17, 18. No radials is no refusal: a clear scan.
 pub fn read_packet_header(body: &[u8], packet: Packet) -> HeaderRead
     requires { ⌜ (18 ≤ length (now body)) × (packet ≡ Packet.Packet28 → ⊥) ⌝ }
     ensures { λ r. ⌜ headerOf r ≡ outcome (walk (packetHeader packet) (now (body .entry)) 18) ⌝ }
@@ -166,10 +156,10 @@ pub fn read_packet_header(body: &[u8], packet: Packet) -> HeaderRead
     let n_bins = count_at(body, 20);
     let range_scale = bytes::bytes::u16_at(body, 26);
     let n_radials = count_at(body, 28);
-    if is_empty(n_radials, n_bins) {
+    let cells = product(n_radials, n_bins);
+    if n_bins == 0 {
         return HeaderRead::Refused(Level3DecodeError::EmptySweep { n_radials, n_bins });
     }
-    let cells = product(n_radials, n_bins);
     if MAX_GATE_COUNT < cells {
         return HeaderRead::Refused(Level3DecodeError::GridTooLarge {
             n_radials,

@@ -1,6 +1,6 @@
 //! The cases that every run has: short inputs and day numbers exhaustively, every length of small files and bodies, every byte of
-//! them, rows of every length up to 200 cells, radials of every mix of lengths, gaps in all of these, the places outside the Rust's
-//! domain, the caps, and the two grid sizes.
+//! them, rows of every length up to 200 cells, radials of every mix of lengths, gaps in all of these, clear scans, the places outside
+//! the Rust's domain, the caps, and the two grid sizes.
 use super::plans::{with_flags, PRECIP};
 use super::Compare;
 use crate::make::body::{self, Body};
@@ -60,6 +60,7 @@ impl Compare {
         self.every_width(seed);
         self.gaps_fixed(seed);
         self.plans_fixed(seed);
+        self.clear_fixed(seed);
         self.level_counts(seed);
         self.charges_fixed();
         self.mixed_radials(seed);

@@ -100,6 +100,37 @@ fn radial_body(rng: &mut Rng, packet: Packet, radials: usize, bins: usize) -> Bo
     Body { bytes, packet, radials, bins, ends, starts, marks: vec![] }
 }
 
+/// A clear scan of packet 16 or AF1F, some of the time with bytes after its header.
+pub fn clear(rng: &mut Rng, packet: Packet) -> Body {
+    let bins = match rng.below(4) {
+        0 => rng.pick(&[1, 255, 256, 65_535]),
+        1 => rng.between(1, 65_535),
+        _ => rng.between(1, 12),
+    };
+    let mut bytes = header(rng, packet, 0, bins);
+    if rng.one_in(2) {
+        let tail = rng.below(12);
+        bytes.extend(rng.bytes(tail));
+    }
+    Body { bytes, packet, radials: 0, bins, ends: vec![2, 4, 18, 30], starts: vec![], marks: vec![] }
+}
+
+/// Damages a clear scan: another first bin, no bins, a radial that is not there, or as other bodies.
+pub fn damage_clear(rng: &mut Rng, body: &mut Body) {
+    match rng.below(8) {
+        0 => flip(rng, body),
+        1 => shared_header(rng, body),
+        2 => cut(rng, body),
+        3 => body.bytes.truncate(rng.between(26, 31)),
+        4 => body.set16(20, 0),
+        5 => body.set16(28, rng.pick(&[1, 2, 256, 65_535])),
+        _ => {
+            let first = if rng.one_in(2) { 1 } else { rng.u16() };
+            body.set16(18, first);
+        }
+    }
+}
+
 /// A packet 16 body with nothing beside its rows.
 pub fn bench16(rng: &mut Rng, radials: usize, bins: usize) -> Vec<u8> {
     let mut bytes = header(rng, Packet::P16, radials, bins);

@@ -232,6 +232,59 @@ pub fn plan(rng: &mut Rng) -> Case {
     Case::Plan { clock, scheme, lent, totals, file: file.bytes, body: body.bytes, plan }
 }
 
+/// A clear scan with a plan, in buffers of a few places or none: good, or damaged in its body or its plan, and some of the time another
+/// scheme, time or file.
+pub fn clear(rng: &mut Rng) -> Case {
+    let packet = rng.pick(&[Packet::P16, Packet::Af1f]);
+    let what = rng.below(16);
+    let scheme = match what {
+        0..=2 => scheme(rng),
+        3..=8 => Scheme::Precip(parameter(rng)),
+        _ => fitting_scheme(rng, packet),
+    };
+    let mut time = time(rng);
+    if what == 9 {
+        spoil_time(rng, &mut time);
+    }
+    let mut file = file::file(rng, scheme, time.days, time.seconds);
+    if what == 10 {
+        spoil_file(rng, &mut file);
+    }
+    let mut body = body::clear(rng, packet);
+    if what > 10 || rng.one_in(4) {
+        body::damage_clear(rng, &mut body);
+    }
+    // strips that a grid of one radial would have
+    let mut records = plans::good(rng, 1, body.bins);
+    if !rng.one_in(3) {
+        records.retain(|record| !record.is_strip());
+    }
+    if rng.one_in(4) {
+        plans::damage(rng, &mut records, 1, body.bins);
+    }
+    let fields = plans::fields(&records);
+    let totals = if rng.one_in(8) { some(rng, fields.max(1)) } else { fields + rng.below(3) };
+    let sweep = Case::Sweep { clock: time.clock, scheme, lent: few(rng), file: file.bytes, body: body.bytes };
+    sweep.with_plan(totals, plans::bytes(&records))
+}
+
+fn few(rng: &mut Rng) -> Lent {
+    Lent { azimuths: rng.below(3), codes: rng.below(3), physical: rng.below(3) }
+}
+
+/// The same with another body of no radials that agrees with the first on the bytes that are read, of any length, in other buffers.
+pub fn alike(rng: &mut Rng, case: &Case) -> Case {
+    let mut again = case.clone();
+    let Case::Plan { lent, body, .. } = &mut again else { unreachable!() };
+    let len = 30 + rng.pick(&[0, 1, 6, 7, 40]);
+    let mut other = rng.bytes(len);
+    for read in model::clear_reads(body) {
+        other[read.clone()].copy_from_slice(&body[read]);
+    }
+    (*lent, *body) = (few(rng), other);
+    again
+}
+
 /// A precipitation sweep whose floor and ceiling are at or around a place at which the Rust's level count is another.
 pub fn level_count(rng: &mut Rng) -> Case {
     let packet = rng.pick(&Packet::ALL);

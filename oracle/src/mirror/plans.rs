@@ -64,6 +64,9 @@ fn checked(plan: &[u8], radials: usize, bins: usize) -> Result<Vec<(Place, Recor
     if slips(EmptyPlanRefused) && plan.is_empty() {
         return Err(refused(37, Place { at: 0, nth: 0 }));
     }
+    if slips(ClearPlanRefused) && radials == 0 && !plan.is_empty() {
+        return Err(refused(39, Place { at: 0, nth: 0 }));
+    }
     let most = if slips(OneStripFewer) { 4095 } else { 4096 };
     let end_of_row = bins as i64 - slips(LastGateOutside) as i64;
     // every fault of every record, in plan order
@@ -87,6 +90,10 @@ fn checked(plan: &[u8], radials: usize, bins: usize) -> Result<Vec<(Place, Recor
                     faults.push(refused(37, *place));
                 }
                 let end = if slips(GateSumWraps) { i64::from((first + count) as u16) } else { first + count };
+                let passes = slips(ClearStripsPass) && radials == 0;
+                if passes {
+                    continue;
+                }
                 if !(0..radials as i64).contains(radial) || *first < 0 || end > end_of_row {
                     faults.push(refused(39, *place));
                 }

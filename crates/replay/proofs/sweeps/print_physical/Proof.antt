@@ -16,6 +16,9 @@ slice-aggregate-say c = search needs
 say-requires : tie.Need-say-requires Inv-loop μ-loop
 say-requires c κs = search needs
 
+none-of-requires : tie.Need-none-of-requires Inv-loop μ-loop
+none-of-requires c κs = search needs
+
 loop-holds : tie.Need-loop-holds Inv-loop μ-loop
 loop-holds c = search needs
 
@@ -51,6 +54,7 @@ print-physical-spec =
     μ-loop
     slice-aggregate-say
     say-requires
+    none-of-requires
     loop-holds
     returns
     mul-single

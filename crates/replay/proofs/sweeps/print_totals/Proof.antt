@@ -16,11 +16,8 @@ slice-aggregate-say c = search needs
 say-requires : tie.Need-say-requires Inv-loop μ-loop
 say-requires c κs = search needs
 
-slice-aggregate-say-2 : tie.Need-slice-aggregate-say-2 Inv-loop μ-loop
-slice-aggregate-say-2 c = search needs
-
-say-requires-2 : tie.Need-say-requires-2 Inv-loop μ-loop
-say-requires-2 c κs = search needs
+none-of-requires : tie.Need-none-of-requires Inv-loop μ-loop
+none-of-requires c κs = search needs
 
 loop-holds : tie.Need-loop-holds Inv-loop μ-loop
 loop-holds c = search needs
@@ -28,11 +25,11 @@ loop-holds c = search needs
 returns : tie.Need-returns Inv-loop μ-loop
 returns c = search needs
 
-slice-aggregate-say-3 : tie.Need-slice-aggregate-say-3 Inv-loop μ-loop
-slice-aggregate-say-3 c = search needs
+slice-aggregate-say-2 : tie.Need-slice-aggregate-say-2 Inv-loop μ-loop
+slice-aggregate-say-2 c = search needs
 
-say-requires-3 : tie.Need-say-requires-3 Inv-loop μ-loop
-say-requires-3 c κs = search needs
+say-requires-2 : tie.Need-say-requires-2 Inv-loop μ-loop
+say-requires-2 c κs = search needs
 
 mul-whole : tie.Need-mul-whole Inv-loop μ-loop
 mul-whole c = search needs
@@ -63,12 +60,11 @@ print-totals-spec =
     μ-loop
     slice-aggregate-say
     say-requires
-    slice-aggregate-say-2
-    say-requires-2
+    none-of-requires
     loop-holds
     returns
-    slice-aggregate-say-3
-    say-requires-3
+    slice-aggregate-say-2
+    say-requires-2
     mul-whole
     shared-slice-read-whole
     whole-requires
