@@ -7,3 +7,9 @@ pub mod Copied
 pub mod Filling
 pub mod Examples
 pub mod Thresholds
+pub mod Denoted
+pub mod Rounding
+pub mod Operations
+pub mod TenthSums
+pub mod TenthValues
+pub mod Tenths

@@ -4,3 +4,4 @@ pub mod Outcome
 pub mod Pdb
 pub mod Physical
 pub mod Thresholds
+pub mod Tenths

@@ -12,6 +12,7 @@ pub mod Timed
 pub mod Reading
 pub mod Circle
 pub mod Thresholds
+pub mod Tenths
 pub mod Blanks
 pub mod Blanking
 pub mod GapReading

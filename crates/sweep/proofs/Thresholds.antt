@@ -74,7 +74,7 @@ legacy-refused post file clock b na nc np h e x none = (
 -- ---- any calls
 
 -- how many cells a sweep has
-abbrev cells : Sweep → ℕ
+abbrev pub cells : Sweep → ℕ
 cells s = s .figures .«n_radials» * s .figures .«n_bins»
 
 -- what an accepted run leaves, by the levels of a copy

@@ -7,3 +7,4 @@ pub mod GapSweep
 pub mod WithGaps
 pub mod Clear
 pub mod GapOrder
+pub mod Tenths

@@ -5,7 +5,7 @@ use super::plans::{with_flags, PRECIP};
 use super::Compare;
 use crate::make::body::{self, Body};
 use crate::make::{cases, file, Rng};
-use crate::model;
+use crate::model::{self, tenths};
 use crate::port::READS;
 use crate::sample;
 use lines::{Answer, Case, FieldKind, Lent, Packet, Refusal, Scheme};
@@ -63,6 +63,7 @@ impl Compare {
         self.clear_fixed(seed);
         self.level_counts(seed);
         self.charges_fixed();
+        self.tenths();
         self.mixed_radials(seed);
         self.every_centre(seed);
         self.caps(seed);
@@ -280,6 +281,21 @@ impl Compare {
                     *self.counts.kinds.entry("counts").or_default() += 1;
                 }
             }
+        }
+    }
+
+    /// M-108: of the port's values of codes 2 to 255, each is within 1 / 8 of the exact tenths and above the one before, for every step
+    /// with some minima, and for every minimum with step 1.
+    fn tenths(&mut self) {
+        let codes: Vec<u16> = tenths::CODES.collect();
+        let minima = [i16::MIN, -32_767, -320, -1, 0, 1, 3, i16::MAX];
+        let steps = minima.into_iter().flat_map(|m| (1..=i16::MAX).map(move |i| (m, i)));
+        for (m, i) in steps.chain((i16::MIN..=i16::MAX).map(|m| (m, 1))) {
+            let values = self.port.values(&tenths::block(m, i), 0, Scheme::Halfword, &codes, codes.len());
+            let wrong = tenths::greatest_distance(m, i, &values.unwrap_or_default()).err().or(self.port.take_fault());
+            self.promise(wrong.as_deref().unwrap_or_default(), wrong.is_none());
+            self.counts.accepted += 1;
+            *self.counts.kinds.entry("tenths").or_default() += 1;
         }
     }
 
