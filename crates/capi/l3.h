@@ -7,7 +7,7 @@
  *
  * What is returned:
  *   0        accepted (l3_known: 1 for a known code, else 0)
- *   1 to 41  refused; the number is the one of the README's table
+ *   1 to 42  refused; the number is the one of the README's table
  *   100      L3_SHORT_REPORT: ints has fewer than 16 places, or floats fewer than 8
  *   101      L3_BAD_ARGUMENT: an argument that the function does not take: an unknown scheme, kind or item, an array of a length that is
  *            not the one asked for
@@ -93,7 +93,7 @@ enum {
     L3_CUT_ARRAY_BODY = 5,
     L3_CUT_PACKET_BODY = 6
 };
-enum { L3_AZIMUTHS = 0, L3_CODES = 1, L3_PHYSICAL = 2, L3_MARKS = 3, L3_TOTALS = 4 };
+enum { L3_AZIMUTHS = 0, L3_CODES = 1, L3_PHYSICAL = 2, L3_MARKS = 3, L3_TOTALS = 4, L3_OUTPUT = 5 };
 
 /* How many message codes are known. */
 enum { L3_KNOWN_CODES = 26 };
@@ -136,6 +136,15 @@ uint32_t l3_totals(const uint8_t *file, size_t file_len, uint64_t clock, uint32_
  * buffers as in l3_sweep. */
 uint32_t l3_symbology(const uint8_t *body, size_t body_len, double *azimuths, size_t azimuths_len,
                       uint16_t *codes, size_t codes_len, int64_t *ints, size_t ints_len, double *floats, size_t floats_len);
+
+/* The body of packet 16 that has the rows of a body of packet AF1F, for displays that read no runs. Accepted, it stands in the front of
+ * output, and later places are left as they are; ints[0] is its length, 30 + radials * (6 + bins, or bins + 1 where bins is odd). It has
+ * the original's bins, radials, range scale, bytes 22-25, starts and widths, and first bin 0. l3_sweep answers it as it answers the
+ * original, under any scheme but L3_LEGACY, but for ints[L3_PACKET]. Refused are: what l3_symbology refuses, where any code but AF1F is
+ * 14 as soon as it is read, and a first bin that is not 0 is 17, after 16; with 42 a body of 65,535 bins, after 17; with 36 an output
+ * that is too short, last. After a refusal output is as it was. */
+uint32_t l3_export16(const uint8_t *body, size_t body_len, uint8_t *output, size_t output_len,
+                     int64_t *ints, size_t ints_len, double *floats, size_t floats_len);
 
 /* ints[0]: the place of the AWIPS token; the product stands there, and the site three bytes on. */
 uint32_t l3_token(const uint8_t *file, size_t file_len, int64_t *ints, size_t ints_len, double *floats, size_t floats_len);

@@ -10,6 +10,7 @@ use std::collections::BTreeMap;
 
 mod charges;
 mod clear;
+mod exports;
 mod fixed;
 mod plans;
 
@@ -44,6 +45,9 @@ pub struct Counts {
     /// Readings of clear scans, and bodies held to one that agrees with them on the bytes that are read.
     pub clear: [[Split; 5]; 3],
     pub clear_alike: u64,
+    pub exports: Split,
+    /// Written bodies read again, and sweep readings of them held to the original's.
+    pub export_laws: [u64; 2],
 }
 
 pub struct Compare {
@@ -304,7 +308,8 @@ impl Compare {
     pub fn random(&mut self, seed: u64, number: u64) {
         let rng = &mut Rng::new(seed, number);
         let case = match rng.below(100) {
-            0..=36 => cases::sweep(rng),
+            0..=33 => cases::sweep(rng),
+            34..=36 => return self.export(rng),
             37 => cases::charge(rng),
             38 => return self.charge_laws(rng),
             39..=42 => return self.clear(rng),
@@ -383,6 +388,9 @@ impl Counts {
             Some(r) => self.count_refusal(r.number),
             None => self.accepted += 1,
         }
+        if let Case::Export { .. } = case {
+            self.exports.count(answer);
+        }
         if let Case::Sweep { scheme, body, .. } | Case::Gaps { scheme, body, .. } | Case::Plan { scheme, body, .. } = case {
             let packet = match body.get(16..18) {
                 Some([0, 16]) => Packet::P16,
@@ -438,6 +446,9 @@ impl Counts {
                 missing.push(format!("a gap in packet {}", packet.name()));
             }
         }
+        if self.exports.accepted == 0 {
+            missing.push("an export".into());
+        }
         missing
     }
 
@@ -463,6 +474,8 @@ impl Counts {
         print_table("damaged bodies (demand 3), accepted / refused:", &self.damaged);
         print_table("readings of clear scans by packet and scheme, accepted / refused:", &self.clear);
         println!("  held to another with the same bytes that are read: {}", self.clear_alike);
+        let (Split { accepted, refused }, [read, swept]) = (self.exports, self.export_laws);
+        println!("exports, accepted / refused: {accepted} / {refused}; read again {read}, in sweep readings {swept}");
         let missing = self.missing();
         if !missing.is_empty() {
             println!("did not occur: {}", missing.join(", "));

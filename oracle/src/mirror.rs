@@ -10,6 +10,7 @@ use std::sync::atomic::{AtomicUsize, Ordering};
 
 mod charges;
 mod clear;
+mod exports;
 mod plans;
 
 macro_rules! slips {
@@ -139,6 +140,28 @@ slips! {
     ClearMarkWritten,
     ClearStripsPass,
     ClearPlanRefused,
+    ExportCodeLate,
+    ExportCode16Passes,
+    ExportFirstBinPasses,
+    ExportFirstBinBeforeGrid,
+    ExportLongRowPasses,
+    ExportClearLongRowPasses,
+    ExportLongRowBeforeFirstBin,
+    ExportLongRowAfterRadials,
+    ExportClearRefused,
+    ExportRoomBeforeRadials,
+    ExportStartReduced,
+    ExportLastCellTwice,
+    ExportOddRowBare,
+    ExportEvenRowLonger,
+    ExportCountOfBins,
+    ExportHeaderKept,
+    ExportLengthLess18,
+    ExportNoLayer,
+    ExportBytes22Lost,
+    ExportRangeScaleLost,
+    ExportOneByteMore,
+    ExportRefusalWrites,
 }
 
 /// 1 + the slip's place in `SLIPS`, or 0.
@@ -160,6 +183,7 @@ pub fn entries() -> Entries {
         gaps,
         totals,
         symbology,
+        export16,
         token,
         message_header,
         scan_time,
@@ -452,6 +476,36 @@ unsafe extern "C" fn symbology(
             0
         }
         _ => unreachable!(),
+    }
+}
+
+unsafe extern "C" fn export16(
+    body: *const u8,
+    body_len: usize,
+    output: *mut u8,
+    output_len: usize,
+    ints: *mut i64,
+    ints_len: usize,
+    floats: *mut f64,
+    floats_len: usize,
+) -> u32 {
+    let Some(mut report) = report(ints, ints_len, floats, floats_len) else { return SHORT_REPORT };
+    let output = from_raw_parts_mut(output, output_len);
+    match exports::read(from_raw_parts(body, body_len), output_len) {
+        Err(r) => {
+            if let (true, 22, Some(first)) = (slips(ExportRefusalWrites), r.number, output.first_mut()) {
+                *first = 0xff;
+            }
+            report.refuse(&r)
+        }
+        Ok(written) => {
+            output[..written.len()].copy_from_slice(&written);
+            if let (true, Some(next)) = (slips(ExportOneByteMore), output.get_mut(written.len())) {
+                *next = 0;
+            }
+            report.ints[0] = written.len() as i64;
+            0
+        }
     }
 }
 

@@ -15,6 +15,7 @@
 //! | l3_symbology, l3_sweep, l3_gaps, l3_totals | 6 packet (16, 44831 for AF1F, 28), 7 radials, 8 bins, 9 range scale or 0 | 4, 5 gate width, first gate or 0 |
 //! | l3_sweep, l3_gaps, l3_totals | 10 whether a scale is declared, 11 level count, 12 floor | 6, 7 minimum, step |
 //! | l3_totals | 14 the number of fields | |
+//! | l3_export16 | 0 the length of what was written | |
 //! | l3_linear, l3_float | 11 level count | 6, 7 minimum, step |
 //! | l3_precip | 12 floor, 13 ceiling or -1 | 6, 7 minimum, step |
 //! | l3_xdr, l3_items | 0 value, or 0 start and 1 length; 15 the position after the read, also on a refusal (item 7: 0 the bytes left, no position) | 0 value |
@@ -68,6 +69,10 @@ entries! {
     );
     symbology: l3_symbology(
         body: *const u8, body_len: usize, azimuths: *mut f64, azimuths_len: usize, codes: *mut u16, codes_len: usize,
+        ints: *mut i64, ints_len: usize, floats: *mut f64, floats_len: usize,
+    );
+    export16: l3_export16(
+        body: *const u8, body_len: usize, output: *mut u8, output_len: usize,
         ints: *mut i64, ints_len: usize, floats: *mut f64, floats_len: usize,
     );
     token: l3_token(file: *const u8, file_len: usize, ints: *mut i64, ints_len: usize, floats: *mut f64, floats_len: usize);
@@ -157,6 +162,9 @@ enum Beside<'a> {
 /// As many totals as there are field numbers.
 const MOST_TOTALS: usize = 65_536;
 
+/// More bytes than any export has: of each radial seven beside its cells.
+const MOST_OUTPUT: usize = 30 + 65_535 * 7 + 4_000_000;
+
 /// The number of a clock that no u64 holds: it is out of range either way.
 fn u64_clock(clock: i128) -> u64 {
     u64::try_from(clock).unwrap_or(u64::MAX)
@@ -219,6 +227,7 @@ pub struct Port {
     physical: Buffer<u32>,
     marks: Buffer<u8>,
     totals: Buffer<u64>,
+    output: Buffer<u8>,
     ints: [i64; INTS + GUARD],
     floats: [f64; FLOATS + GUARD],
     fault: Option<String>,
@@ -237,6 +246,7 @@ impl Port {
             physical: Buffer::new(),
             marks: Buffer::new(),
             totals: Buffer::new(),
+            output: Buffer::new(),
             ints: [0; INTS + GUARD],
             floats: [0.0; FLOATS + GUARD],
             fault: None,
@@ -258,6 +268,7 @@ impl Port {
                 self.sweep(*clock, *scheme, (*lent, Beside::Plan(plan, *totals)), file, body)
             }
             Case::Sym { body } => self.symbology(body, lent),
+            Case::Export { out, body } => self.export(*out, body),
             Case::Token { file } => self.token(file),
             Case::Mhb { file } => self.message_header(file),
             Case::Time { clock, days, seconds } => {
@@ -362,7 +373,7 @@ impl Port {
         let refused = self.call_physical(file, block, scheme, codes, (INTS, FLOATS));
         self.check_report();
         let written = if refused == 0 { codes.len().min(lent) } else { 0 };
-        self.check_kept([0, 0, written, 0, 0]);
+        self.check_kept([0, 0, written, 0, 0, 0]);
         if refused != 0 {
             return Err(self.refusal(refused));
         }
@@ -439,6 +450,8 @@ impl Port {
         self.lend(Lent { azimuths: 4, codes: 4, physical: 4 });
         let sweeps = SWEEPS.map(|(name, beside)| (name, self.call_sweep(beside, &[], (0, 4, 0.0), &[], (ints, floats))));
         let symbology = self.call_symbology(&[], (ints, floats));
+        self.output.lend(30, pattern8);
+        let export = self.call_export(&CLEAR, (ints, floats));
         let physical = self.call_physical(&[], 0, (4, 0.0), &[1, 2], (ints, floats));
         let (i, f) = (self.ints.as_mut_ptr(), self.floats.as_mut_ptr());
         let bytes = self.file.place(b"N0BLOT");
@@ -446,6 +459,7 @@ impl Port {
         let others = unsafe {
             [
                 ("l3_symbology", symbology),
+                ("l3_export16", export),
                 ("l3_physical", physical),
                 ("l3_token", (e.token)(bytes, 6, i, ints, f, floats)),
                 ("l3_message_header", (e.message_header)(bytes, 6, i, ints, f, floats)),
@@ -484,7 +498,7 @@ impl Port {
         let refused = self.call_sweep(beside, file, by, body, (INTS, FLOATS));
         self.check_report();
         if refused != 0 {
-            self.check_kept([0; 5]);
+            self.check_kept([0; 6]);
             return Answer::Refused(self.refusal(refused));
         }
         let Some(picture) = self.picture() else { return Answer::Accepted };
@@ -500,7 +514,7 @@ impl Port {
             self.found(format!("accepted {marked} marks and {totalled} totals with {lent:?} places lent"));
             return Answer::Accepted;
         }
-        self.check_kept([picture.radials, cells, cells, marked, totalled]);
+        self.check_kept([picture.radials, cells, cells, marked, totalled, 0]);
         let physical = self.physical.memory[..cells].iter().map(|b| f32::from_bits(*b)).collect();
         let scale = match self.ints[10] {
             0 => None,
@@ -526,12 +540,30 @@ impl Port {
         let refused = self.call_symbology(body, (INTS, FLOATS));
         self.check_report();
         if refused != 0 {
-            self.check_kept([0; 5]);
+            self.check_kept([0; 6]);
             return Answer::Refused(self.refusal(refused));
         }
         let Some(picture) = self.picture() else { return Answer::Accepted };
-        self.check_kept([picture.radials, picture.radials * picture.bins, 0, 0, 0]);
+        self.check_kept([picture.radials, picture.radials * picture.bins, 0, 0, 0, 0]);
         Answer::Picture(Box::new(picture))
+    }
+
+    fn export(&mut self, out: usize, body: &[u8]) -> Answer {
+        self.lend(Lent { azimuths: 0, codes: 0, physical: 0 });
+        self.output.lend(out.min(MOST_OUTPUT), pattern8);
+        let refused = self.call_export(body, (INTS, FLOATS));
+        self.check_report();
+        if refused != 0 {
+            self.check_kept([0; 6]);
+            return Answer::Refused(self.refusal(refused));
+        }
+        let written: usize = self.whole(0);
+        if written > self.output.lent {
+            self.found(format!("accepted {written} bytes with {} places lent for them", self.output.lent));
+            return Answer::Accepted;
+        }
+        self.check_kept([0, 0, 0, 0, 0, written]);
+        Answer::Written(self.output.memory[..written].to_vec())
     }
 
     fn token(&mut self, file: &[u8]) -> Answer {
@@ -787,6 +819,22 @@ impl Port {
         }
     }
 
+    fn call_export(&mut self, body: &[u8], report: (usize, usize)) -> u32 {
+        let body_at = self.body.place(body);
+        unsafe {
+            (self.entries.export16)(
+                body_at,
+                body.len(),
+                self.output.memory.as_mut_ptr(),
+                self.output.lent,
+                self.ints.as_mut_ptr(),
+                report.0,
+                self.floats.as_mut_ptr(),
+                report.1,
+            )
+        }
+    }
+
     /// The codes are an input: they end at the fence too.
     fn call_physical(
         &mut self,
@@ -825,6 +873,7 @@ impl Port {
         self.physical.lend(lent.physical, pattern32);
         self.marks.lend(0, pattern8);
         self.totals.lend(0, pattern64);
+        self.output.lend(0, pattern8);
         self.prepare();
     }
 
@@ -848,22 +897,23 @@ impl Port {
     }
 
     fn buffers_untouched(&self) -> bool {
-        self.touched([0; 5]).iter().all(Option::is_none)
+        self.touched([0; 6]).iter().all(Option::is_none)
     }
 
     /// The first place of each buffer from the given one on that does not hold what it held before.
-    fn touched(&self, [azimuths, codes, physical, marks, totals]: [usize; 5]) -> [Option<usize>; 5] {
+    fn touched(&self, [azimuths, codes, physical, marks, totals, output]: [usize; 6]) -> [Option<usize>; 6] {
         [
             self.azimuths.touched(azimuths),
             self.codes.touched(codes),
             self.physical.touched(physical),
             self.marks.touched(marks),
             self.totals.touched(totals),
+            self.output.touched(output),
         ]
     }
 
     /// The places from the given ones on must hold what they held before.
-    fn check_kept(&mut self, from: [usize; 5]) {
+    fn check_kept(&mut self, from: [usize; 6]) {
         for (name, at) in BUFFERS.into_iter().zip(self.touched(from)) {
             if let Some(at) = at {
                 self.found(format!("place {at} of {name}, which must be kept, was written"));
@@ -1003,6 +1053,7 @@ pub struct Timed<'a> {
     physical: Vec<f32>,
     marks: Vec<u8>,
     totals: Vec<u64>,
+    output: Vec<u8>,
     ints: [i64; INTS],
     floats: [f64; FLOATS],
 }
@@ -1020,6 +1071,7 @@ impl<'a> Timed<'a> {
             physical: vec![0.0; lent.physical],
             marks: vec![0; lent.azimuths],
             totals: vec![0; MOST_TOTALS],
+            output: vec![0; MOST_OUTPUT],
             ints: [0; INTS],
             floats: [0.0; FLOATS],
         }
@@ -1103,6 +1155,21 @@ impl<'a> Timed<'a> {
         }
     }
 
+    pub fn export(&mut self) -> u32 {
+        unsafe {
+            (self.entries.export16)(
+                self.body.as_ptr(),
+                self.body.len(),
+                self.output.as_mut_ptr(),
+                self.output.len(),
+                self.ints.as_mut_ptr(),
+                INTS,
+                self.floats.as_mut_ptr(),
+                FLOATS,
+            )
+        }
+    }
+
     pub fn symbology(&mut self) -> u32 {
         unsafe {
             (self.entries.symbology)(
@@ -1120,6 +1187,13 @@ impl<'a> Timed<'a> {
         }
     }
 }
+
+/// A clear scan of packet AF1F, whose export has as many bytes.
+const CLEAR: [u8; 30] = {
+    let mut body = [0; 30];
+    (body[0], body[1], body[3], body[16], body[17], body[21]) = (0xff, 0xff, 1, 0xaf, 0x1f, 1);
+    body
+};
 
 /// The readings of a sweep, with a plan or marks that stand for any.
 const SWEEPS: [(&str, Beside); 3] =

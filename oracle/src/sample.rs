@@ -698,6 +698,83 @@ pub fn clear() -> Vec<(String, Case)> {
     list.0
 }
 
+/// M-109: exports with odd and even rows, of clear scans, each refusal and each bound, and the order of the refusals.
+pub fn exports() -> Vec<(String, Case)> {
+    let mut list = List(vec![]);
+    let odd = || af1f(5, &[(1, 3599, 10, &[0x31, 0x25]), (2, 9, 100, &[0x00, 0x1f, 0x0e, 0x4d])]);
+    let even = || af1f(4, &[(2, 0, 1, &[0x13, 0x27, 0x01, 0x1f]), (1, 65_535, 10, &[0x31, 0x12])]);
+    let runs: Vec<u8> = (0..20).map(|i| 0xd0 | i * 3 % 16).collect();
+    let clear = |first_bin: u16, bins: u16| header(0xaf1f, first_bin, bins, 0);
+    let short = || af1f(5, &[(1, 0, 10, &[0x31, 0x25]), (1, 10, 10, &[0x31, 0x35])]);
+    for (name, out, body) in [
+        // accepted
+        ("odd", 64, odd()),
+        ("even", 64, even()),
+        ("one_bin", 64, af1f(1, &[(1, 0, 10, &[0x1f, 0])])),
+        ("surplus", 64, af1f(5, &[(2, 0, 10, &[0x31, 0x25, 0xf7, 0])])),
+        ("over_after_row", 64, af1f(5, &[(2, 0, 10, &[0x31, 0x25, 0x01, 0xff])])),
+        ("after_the_radials", 64, [even(), vec![1, 2, 3]].concat()),
+        ("blocks", 400, af1f(130, &[(5, 0, 10, &runs[..10]), (5, 10, 10, &runs[10..])])),
+        (
+            "blocks_odd",
+            400,
+            af1f(129, &[(5, 0, 10, &[&runs[..9], &[0xc7]].concat()), (5, 10, 10, &[&[0xc7], &runs[11..]].concat())]),
+        ),
+        ("clear", 64, clear(0, 5)),
+        ("clear_65534", 64, clear(0, 65_534)),
+        ("clear_more_bytes", 64, [clear(0, 1), vec![0, 1, 0, 0, 0, 10, 0x10, 0]].concat()),
+        // the block header and the code
+        ("body_0", 64, vec![]),
+        ("body_17", 64, odd()[..17].to_vec()),
+        ("body_17_code_16", 64, header(16, 0, 2, 1)[..17].to_vec()),
+        ("divider", 64, [&[0, 7], &odd()[2..]].concat()),
+        ("divider_code_16", 64, [&[0, 7], &header(16, 0, 2, 1)[2..]].concat()),
+        ("block_id", 64, [&[0xff, 0xff, 0, 2], &odd()[4..]].concat()),
+        ("code_16", 64, p16(2, &[(2, 0, 10, &[7, 9])])),
+        ("code_16_cut", 64, header(16, 0, 2, 1)[..18].to_vec()),
+        ("code_16_clear", 64, header(16, 0, 5, 0)),
+        ("code_28", 64, p28(&[Ray(0.0, 1.0, 1, &[5])])),
+        ("code_28_cut", 64, generic(0, &[])[..18].to_vec()),
+        ("code_signed", 64, header(0xaf20, 0, 2, 1)),
+        ("code_17", 64, header(17, 0, 2, 1)[..18].to_vec()),
+        // the packet's header
+        ("body_18", 64, odd()[..18].to_vec()),
+        ("body_29", 64, clear(1, 65_535)[..29].to_vec()),
+        ("no_bins", 64, header(0xaf1f, 1, 0, 3)),
+        ("clear_no_bins", 64, clear(1, 0)),
+        ("cells_over", 64, header(0xaf1f, 1, 2001, 2000)),
+        ("cells_2000", 64, header(0xaf1f, 0, 2000, 2000)),
+        ("first_bin", 64, header(0xaf1f, 1, 5, 1)),
+        ("first_bin_most", 64, header(0xaf1f, 65_535, 5, 1)),
+        ("clear_first_bin", 64, clear(256, 5)),
+        ("first_bin_long", 64, header(0xaf1f, 1, 65_535, 1)),
+        ("long", 64, header(0xaf1f, 0, 65_535, 1)),
+        ("long_61", 64, header(0xaf1f, 0, 65_535, 61)),
+        ("long_62", 64, header(0xaf1f, 1, 65_535, 62)),
+        ("long_65534", 64, header(0xaf1f, 0, 65_534, 61)),
+        ("clear_long", 64, clear(0, 65_535)),
+        ("long_lent_nothing", 0, clear(0, 65_535)),
+        // the radials
+        ("no_six_bytes", 64, odd()[..43].to_vec()),
+        ("width_0", 64, af1f(5, &[(1, 0, 0, &[0x31, 0x25])])),
+        ("width_101", 64, af1f(5, &[(1, 0, 10, &[0x31, 0x25]), (1, 0, 101, &[0x31, 0x25])])),
+        ("count_past_end", 64, odd()[..47].to_vec()),
+        ("no_row", 64, short()),
+        ("no_row_lent_nothing", 0, short()),
+        // the buffer
+        ("lent_exactly", 54, odd()),
+        ("lent_one_short", 53, odd()),
+        ("lent_nothing", 0, odd()),
+        ("even_lent_exactly", 50, even()),
+        ("even_lent_one_short", 49, even()),
+        ("clear_lent_exactly", 30, clear(0, 5)),
+        ("clear_lent_one_short", 29, clear(0, 5)),
+    ] {
+        list.add(&format!("export_{name}"), Case::Export { out, body });
+    }
+    list.0
+}
+
 /// Rows of 130 cells, so two blocks of 64 and a rest, of every packet under every scheme that it allows.
 fn blocks(list: &mut List) {
     let bytes: Vec<u8> = (0..261).map(|i| (i * 7 % 256) as u8).collect();
@@ -840,6 +917,7 @@ pub fn list() -> Vec<(String, Case)> {
     list.extend(plans());
     list.extend(charges());
     list.extend(clear());
+    list.extend(exports());
     list
 }
 

@@ -8,6 +8,7 @@ pub fn answer(case: &Case) -> Answer {
         Case::Gaps { marks, .. } => gaps(case.clone().ordinary(), *marks),
         Case::Plan { totals, plan, .. } => planned(case.clone().ordinary(), *totals, plan),
         Case::Sweep { body, .. } | Case::Sym { body } if model::is_clear(body) => clear(case.clone()),
+        Case::Export { out, body } => export(*out, body),
         Case::Date { days } => model::date(*days).map_or_else(Answer::Refused, Answer::Date),
         Case::Charge { total, ends, rates } => model::charge(*total, ends, rates).unwrap_or_else(Answer::Refused),
         _ => altered(case, radish::answer(case)),
@@ -55,6 +56,12 @@ fn clear(mut case: Case) -> Answer {
         _ => {}
     }
     given
+}
+
+/// M-109, from what symbology refuses.
+fn export(out: usize, body: &[u8]) -> Answer {
+    let refused = answer(&Case::Sym { body: body.to_vec() }).refusal().copied();
+    model::export::export(body, refused, out).map_or_else(Answer::Refused, Answer::Written)
 }
 
 /// M-104, from the ordinary reading: 10 for any scheme but precipitation where 10 stands, so before 9 and 36; and where a sweep is

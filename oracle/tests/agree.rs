@@ -21,6 +21,7 @@ fn the_rust_agrees_with_itself() {
     assert_eq!(compare.counts.missing(), Vec::<String>::new());
     assert!(!compare.counts.plan_laws.contains(&0) && !compare.counts.charge_laws.contains(&0));
     assert!(compare.counts.clear_alike > 0);
+    assert!(!compare.counts.export_laws.contains(&0));
 }
 
 #[test]
@@ -40,6 +41,7 @@ fn a_case_survives_its_line() {
             cases::scan_time(rng),
             cases::date(rng),
             cases::charge(rng),
+            cases::export(rng).0,
         ] {
             let line = case.line("name");
             let (name, again) = Case::parse(&line).unwrap();
@@ -61,7 +63,10 @@ fn a_line_lends_no_more_than_a_sweep_has() {
         };
         let lent = Lent { azimuths: usize::MAX, codes: 1 << 40, physical: usize::MAX };
         let case = Case::Sweep { clock, scheme, lent, file, body };
-        for case in [case.clone(), case.clone().with_marks(usize::MAX), case.with_plan(usize::MAX, vec![1, 0, 2, 0, 7])] {
+        let Case::Sweep { body, .. } = &case else { unreachable!() };
+        let export = Case::Export { out: usize::MAX, body: body.clone() };
+        let with_plan = case.clone().with_plan(usize::MAX, vec![1, 0, 2, 0, 7]);
+        for case in [case.clone(), case.with_marks(usize::MAX), with_plan, export] {
             let outcome = port.run(&case, Lent::MOST);
             assert!(wanted::answer(&case).same(&outcome.answer) && outcome.fault.is_none());
         }

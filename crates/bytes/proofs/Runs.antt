@@ -250,7 +250,7 @@ module _ {A : Type 0} where
   shifted-row c (refused x) g = refl
 
 module _ {W A : Type 0} where
-  run-drop : (t : Read W A) (s : List ℕ) (c q : ℕ) → run t s (c + q) ≡ shifted c (run t (drop c s) q)
+  pub run-drop : (t : Read W A) (s : List ℕ) (c q : ℕ) → run t s (c + q) ≡ shifted c (run t (drop c s) q)
   unfolding run shifted
   run-drop (give a) s c q = refl
   run-drop (stop x) s c q = refl

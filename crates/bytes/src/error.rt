@@ -19,6 +19,7 @@ pub enum Buffer {
     Physical,
     Marks,
     Totals,
+    Output,
 }
 
 pub enum Level3DecodeError {
@@ -152,4 +153,5 @@ pub enum Level3DecodeError {
     },
     TariffMalformed,
     TotalTooLarge,
+    RowTooLong,
 }

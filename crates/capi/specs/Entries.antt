@@ -20,6 +20,7 @@ use Rattle.symbology.specs.Answers.{Picture, figuresIn}
 use Rattle.sweep.specs.Sweep.{Accepted, sweepIn, Buffers, readInto}
 use Rattle.sweep.specs.GapSweep.{GapSweep, gapSweepIn, GapBuffers, gapsInto}
 use Rattle.fields.specs.Fields.{Totalled, totalsIn, TotalsBuffers, totalsInto}
+use Rattle.export.specs.Export.{lengthIn}
 use Rattle.xdr.specs.Xdr as Xdr
 use Rattle.xdr.specs.Answers.{done, stringPart, arrayPart}
 use Rattle.xdr.specs.Each.{uintAt, floatAt, stringAt, arrayAt, headAt, listAt, endAt}
@@ -114,6 +115,11 @@ pub record PictureLeaves (d : ℕ → ℕ → Result Picture) (number : ℕ) (az
   pub report : Leaves (said (reportOf (figuresIn (d (length az) (length cs))) figuresReport)) number ints ints' floats floats'
   pub azimuths : az' ≡ lentBy (roomFirst ints floats (said (d (length az) (length cs)))) (λ p. p .azimuths) az
   pub codes : cs' ≡ lentBy (roomFirst ints floats (said (d (length az) (length cs)))) (λ p. p .codes) cs
+
+-- The same of l3_export16, which writes what d gives to a buffer that held o.
+pub record ExportLeaves (d : ℕ → Result (List ℕ)) (number : ℕ) (o o' : List ℕ) (ints ints' : List ℕ) (floats floats' : List Float) : Type 0 where
+  pub report : Leaves (said (reportOf (lengthIn (d (length o))) numberReport)) number ints ints' floats floats'
+  pub output : o' ≡ lentBy (roomFirst ints floats (said (d (length o)))) (λ b. b) o
 
 -- the values of the codes, for a buffer of `np` places
 abbrev pub physicalSaid : ℕ → Float → List ℕ → ℕ → List ℕ → ℕ → Said (Result (List Float))

@@ -47,6 +47,7 @@ bufferNumber Buffer.Codes = 1
 bufferNumber Buffer.Physical = 2
 bufferNumber Buffer.Marks = 3
 bufferNumber Buffer.Totals = 4
+bufferNumber Buffer.Output = 5
 
 -- a refusal's whole numbers in order, items and buffers by their numbers
 abbrev pub wholesIn : List Value → List ℕ

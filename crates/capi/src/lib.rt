@@ -3,6 +3,7 @@ pub mod body;
 pub mod charges;
 mod copies;
 pub mod dates;
+pub mod exports;
 pub mod header;
 pub mod items;
 pub mod pdb;

@@ -56,6 +56,7 @@ fn buffer_number(buffer: Buffer) -> u64
         Buffer::Physical => 2,
         Buffer::Marks => 3,
         Buffer::Totals => 4,
+        Buffer::Output => 5,
     }
 }
 
@@ -248,6 +249,7 @@ pub(crate) fn refusal_report(error: Level3DecodeError) -> Report
         Level3DecodeError::StripOutside { offset } => wholes(39, offset as u64, 0, 0, 0),
         Level3DecodeError::TariffMalformed => wholes(40, 0, 0, 0, 0),
         Level3DecodeError::TotalTooLarge => wholes(41, 0, 0, 0, 0),
+        Level3DecodeError::RowTooLong => wholes(42, 0, 0, 0, 0),
     }
 }
 

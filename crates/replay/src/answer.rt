@@ -74,6 +74,9 @@ fn kind_of(line: &[u8]) -> Kind {
     if is(line, b"sym") {
         return Kind::Symbology;
     }
+    if is(line, b"export") {
+        return Kind::Export;
+    }
     if is(line, b"token") {
         return Kind::Token;
     }
@@ -144,6 +147,7 @@ fn is_formed(line: &[u8], kind: Kind) -> bool {
         Kind::Gaps => has(line, b"wwcsnnnnbb"),
         Kind::Plan => has(line, b"wwcsnnnnbbb"),
         Kind::Symbology | Kind::Token | Kind::Header | Kind::Trailing => has(line, b"wwb"),
+        Kind::Export => has(line, b"wwnb"),
         Kind::Time => has(line, b"wwchz"),
         Kind::Date => has(line, b"wwh"),
         Kind::Field => has(line, b"wwbnnk"),
@@ -164,6 +168,7 @@ fn print(kind: Kind, line: &[u8]) {
         Kind::Gaps => crate::sweeps::answer(line, Reading::Gaps),
         Kind::Plan => crate::sweeps::answer(line, Reading::Plan),
         Kind::Symbology => crate::body::symbology(line),
+        Kind::Export => crate::body::export16(line),
         Kind::Threshold => crate::tables::threshold(line),
         Kind::Charge => crate::charges::answer(line),
         Kind::Legacy => crate::tables::legacy(line),

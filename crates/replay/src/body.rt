@@ -1,4 +1,4 @@
-// The picture of a symbology body.
+// The picture of a symbology body, and its export.
 use crate::lent::float;
 use crate::lent::int;
 use crate::print::named;
@@ -126,4 +126,42 @@ pub fn symbology(line: &[u8]) {
     );
     print(number, &ints, &floats, &azimuths, &codes);
     crate::lent::check_report(&ints, &floats);
+}
+
+fn print_written(number: u32, ints: &[u64], floats: &[f64], output: &[u8]) {
+    if number != 0 {
+        crate::refusal::print(number, ints, floats);
+        crate::lent::check_output(output, 0);
+        return;
+    }
+    let n = int(ints, 0) as usize;
+    if output.len() < n {
+        say(b"?");
+        return;
+    }
+    named(b"A ", int(ints, 0));
+    say(b" ");
+    crate::print::hex_bytes(&output[..n]);
+    crate::lent::check_output(output, n);
+}
+
+// The body that the library writes to a part of the buffer, and that it wrote nothing else.
+fn export_on(line: &[u8], body: &[u8], output: &mut [u8], ints: &mut [u64], floats: &mut [f64]) {
+    let room = crate::words::size(word(line, 2));
+    if output.len() < room {
+        say(b"? too large");
+        return;
+    }
+    let number = capi::exports::l3_export16(body, &mut output[..room], ints, floats);
+    print_written(number, ints, floats, output);
+    crate::lent::check_report(ints, floats);
+}
+
+pub fn export16(line: &[u8]) {
+    let mut body = crate::hex::room();
+    let n = crate::hex::read(word(line, 3), &mut body);
+    let mut output = crate::lent::output();
+    let mut ints = crate::lent::ints();
+    let mut floats = crate::lent::floats();
+    export_on(line, &body[..n], &mut output, &mut ints, &mut floats);
 }

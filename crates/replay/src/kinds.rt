@@ -7,6 +7,7 @@ pub enum Kind {
     Gaps,
     Plan,
     Symbology,
+    Export,
     Token,
     Header,
     Time,

@@ -32,6 +32,13 @@ pub fn marks() -> [u8; 4096]
     [0xa5u8; 4096]
 }
 
+pub fn output() -> [u8; 4096]
+    ensures { λ r. ⌜ r ≡ replicate 4096 165 ⌝ }
+    ensures { λ r. ⌜ 4096 ≡ length r ⌝ }
+{
+    marks()
+}
+
 pub fn totals() -> [u64; 4096]
     ensures { λ r. ⌜ r ≡ replicate 4096 11936128518282651045 ⌝ }
     ensures { λ r. ⌜ 4096 ≡ length r ⌝ }
@@ -103,15 +110,23 @@ pub fn check_physical(physical: &[f32], from: usize) {
     }
 }
 
-pub fn check_marks(marks: &[u8], from: usize) {
+fn check_bytes(bytes: &[u8], from: usize, name: &[u8]) {
     let mut i = from;
-    while i < marks.len() {
-        if marks[i] != 0xa5u8 {
-            say_touched(b"marks");
+    while i < bytes.len() {
+        if bytes[i] != 0xa5u8 {
+            say_touched(name);
             return;
         }
         i += 1;
     }
+}
+
+pub fn check_marks(marks: &[u8], from: usize) {
+    check_bytes(marks, from, b"marks");
+}
+
+pub fn check_output(output: &[u8], from: usize) {
+    check_bytes(output, from, b"output");
 }
 
 fn check_words(words: &[u64], from: usize, name: &[u8]) {

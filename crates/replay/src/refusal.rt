@@ -41,6 +41,7 @@ fn say_buffer(n: u64) {
         2 => say(b"physical"),
         3 => say(b"marks"),
         4 => say(b"totals"),
+        5 => say(b"output"),
         _ => say(b"?"),
     }
 }

@@ -337,6 +337,7 @@ fn buffer_words(b: Buffer) {
         Buffer::Physical => words(b"physical: this program has room for 720000 cells"),
         Buffer::Marks => words(b"marks: this program has room for 4096 radials"),
         Buffer::Totals => words(b"totals: this program has room for none"),
+        Buffer::Output => words(b"output: this program has room for none"),
     }
     words(b", the library takes buffers of any length");
 }
@@ -357,7 +358,7 @@ fn print_last(e: Level3DecodeError) {
     }
 }
 
-// 37 to 39: a record of a field plan.
+// 37 to 39: a record of a field plan. 42: of an export.
 fn print_plan(e: Level3DecodeError) {
     match e {
         Level3DecodeError::PlanMalformed { offset } => {
@@ -382,7 +383,7 @@ fn print_plan(e: Level3DecodeError) {
     }
 }
 
-// 40 and 41: a charge.
+// 40 and 41: a charge; 42: an export.
 fn print_charge(e: Level3DecodeError) {
     match e {
         Level3DecodeError::TariffMalformed => {
@@ -392,6 +393,10 @@ fn print_charge(e: Level3DecodeError) {
         Level3DecodeError::TotalTooLarge => {
             kind(41, b"TotalTooLarge");
             words(b"the total is above 1099511627776");
+        }
+        Level3DecodeError::RowTooLong => {
+            kind(42, b"RowTooLong");
+            words(b"65535 bins");
         }
         _ => {}
     }

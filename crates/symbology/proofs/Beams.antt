@@ -3,14 +3,14 @@ use Prim.Native.Nat.{ℕ, _+_, _*_, _-_, _≤_, _<_}
 use native.Mathlib.Omega.{arith}
 use mathlib.Core.List.{List, [], _∷_}
 use mathlib.Core.Bool.{Bool, true, false, cond, not, _||_}
-use mathlib.Core.Path.{_≡_, refl, _∙_}
+use mathlib.Core.Path.{_≡_, refl, sym, ap, _∙_}
 use lib.ListN.{length}
 use lib.Dec.{ltb, eqb}
 use lib.Ieee.{Float}
 use borrow.Author.Tests.{lt-ltb, le-ltb, eq-eqb, ne-eqb}
 use Rattle.bytes.specs.Bytes.{u16At}
 use Rattle.bytes.specs.Refusal.{kind, nat, float}
-use Rattle.bytes.specs.Result.{accepted, refused}
+use Rattle.bytes.specs.Result.{Result, accepted, refused}
 use Rattle.bytes.specs.Reading.{_>>=_, _>>_, remaining, u16, unread, Ended, passed, halted, outcome, walk}
 use Rattle.bytes.proofs.Readings.{walk-checks, walk-checks-then, then-passed}
 use Rattle.symbology.specs.Centre.{centre, widthDegrees}
@@ -62,23 +62,47 @@ first-is Packet16 s old = refl
 first-is PacketAf1f s old = refl
 first-is Packet28 s old = absurd (old refl)
 
-module _ (packet : Packet) (s : List ℕ) where
+module _ (packet : Packet) (first : ℕ) (s : List ℕ) where
   abbrev Checked : Ended Header
   Checked =
       cond (eqb (u16At s 20) 0) (halted (kind 15 (nat (u16At s 28) ∷ nat (u16At s 20) ∷ [])) 30)
       (cond (ltb 4000000 (u16At s 28 * u16At s 20)) (halted (kind 16 (nat (u16At s 28) ∷ nat (u16At s 20) ∷ nat (u16At s 28 * u16At s 20) ∷ nat 4000000 ∷ [])) 30)
-      (cond (not (eqb (firstOf packet s) 0)) (halted (kind 17 (nat (firstOf packet s) ∷ [])) 30)
+      (cond (not (eqb first 0)) (halted (kind 17 (nat first ∷ [])) 30)
       (cond (overBody packet (u16At s 28) (u16At s 20) (length s - 30))
       (halted (kind 18 (nat (u16At s 28) ∷ nat (u16At s 20) ∷ nat (u16At s 28 * (6 + u16At s 20)) ∷ nat (length s - 30) ∷ [])) 30)
       (passed (record { radials = u16At s 28; bins = u16At s 20; range = u16At s 26 }) 30))))
 
-  checked-is : walk (counts packet (firstOf packet s)) s 20 ≡ Checked
+  pub checked-is : walk (counts packet first) s 20 ≡ Checked
   unfolding remaining u16 unread walk _>>=_ _>>_
   checked-is = walk-checks _ _ _ s 30 (walk-checks _ _ _ s 30 (walk-checks _ _ _ s 30 (walk-checks _ _ _ s 30 refl)))
 
-  pub header-is : (packet ≡ Packet28 → ⊥) → walk (packetHeader packet) s 18 ≡ cond (ltb (length s - 18) 12) (halted (kind 12 (nat (18 + (length s - 18)) ∷ [])) 18) Checked
+  module _ {radials bins : ℕ} (re : radials ≡ u16At s 28) (be : bins ≡ u16At s 20) where
+    pub counts-empty : bins ≡ 0 → refused (kind 15 (nat radials ∷ nat bins ∷ [])) ≡ outcome (walk (counts packet first) s 20)
+    counts-empty h = rw (checked-is, ← re, ← be) (simp (eq-eqb _ _ h))
+
+    module _ (some : bins ≡ 0 → ⊥) {cells : ℕ} (ce : cells ≡ radials * bins) where
+      pub counts-large : 4000000 < cells
+          → refused (kind 16 (nat radials ∷ nat bins ∷ nat cells ∷ nat 4000000 ∷ [])) ≡ outcome (walk (counts packet first) s 20)
+      counts-large h = rw (checked-is, ← re, ← be, ← ce) (simp (ne-eqb _ _ some, lt-ltb _ _ h))
+
+      module _ (small : cells ≤ 4000000) where
+        pub counts-first : (first ≡ 0 → ⊥) → refused (kind 17 (nat first ∷ [])) ≡ outcome (walk (counts packet first) s 20)
+        counts-first h = rw (checked-is, ← re, ← be, ← ce) (simp (ne-eqb _ _ some, le-ltb _ _ small, ne-eqb _ _ h))
+
+        module _ (zero : first ≡ 0) {room : ℕ} (ro : room ≡ length s - 30) {over : Bool} (ov : over ≡ overBody packet radials bins room) where
+          pub counts-over : {needed : ℕ} → over ≡ true → needed ≡ radials * (6 + bins)
+              → refused (kind 18 (nat radials ∷ nat bins ∷ nat needed ∷ nat room ∷ [])) ≡ outcome (walk (counts packet first) s 20)
+          counts-over h k = rw (checked-is, ← re, ← be, ← ce, ← ro, ← ov) (simp (ne-eqb _ _ some, le-ltb _ _ small, eq-eqb _ _ zero, h, k))
+
+          pub counts-whole : {range : ℕ} → over ≡ false → range ≡ u16At s 26
+              → accepted (record { radials = radials; bins = bins; range = range }) ≡ outcome (walk (counts packet first) s 20)
+          counts-whole h k = rw (checked-is, ← re, ← be, ← ce, ← ro, ← ov) (simp (ne-eqb _ _ some, le-ltb _ _ small, eq-eqb _ _ zero, h, k))
+
+module _ (packet : Packet) (s : List ℕ) where
+  pub header-is : (packet ≡ Packet28 → ⊥)
+      → walk (packetHeader packet) s 18 ≡ cond (ltb (length s - 18) 12) (halted (kind 12 (nat (18 + (length s - 18)) ∷ [])) 18) (Checked packet (firstOf packet s) s)
   unfolding packetHeader remaining walk _>>=_ _>>_
-  header-is old = walk-checks _ _ _ s 18 (then-passed (counts packet) (firstBin packet) s 18 (first-is packet s old) ∙ checked-is)
+  header-is old = walk-checks _ _ _ s 18 (then-passed (counts packet) (firstBin packet) s 18 (first-is packet s old) ∙ checked-is packet (firstOf packet s) s)
 
 module _ (packet : Packet) (s : List ℕ) (old : packet ≡ Packet28 → ⊥) where
   pub header-cut : 18 ≤ length s → length s < 30 → refused (kind 12 (nat (length s) ∷ [])) ≡ outcome (walk (packetHeader packet) s 18)
@@ -88,27 +112,8 @@ module _ (packet : Packet) (s : List ℕ) (old : packet ≡ Packet28 → ⊥) wh
       rw (header-is packet s old) (simp (lt-ltb _ _ t, e))
 
   module _ (thirty : 30 ≤ length s) where
-    answer : outcome (walk (packetHeader packet) s 18) ≡ outcome (Checked packet s)
+    answer : outcome (walk (packetHeader packet) s 18) ≡ outcome (Checked packet (firstOf packet s) s)
     answer = let t : 12 ≤ length s - 18 = omega arith in rw (header-is packet s old) (simp (le-ltb _ _ t))
 
-    module _ {radials bins : ℕ} (re : radials ≡ u16At s 28) (be : bins ≡ u16At s 20) where
-      pub header-empty : bins ≡ 0 → refused (kind 15 (nat radials ∷ nat bins ∷ [])) ≡ outcome (walk (packetHeader packet) s 18)
-      header-empty h = rw (answer, ← re, ← be) (simp (eq-eqb _ _ h))
-
-      module _ (some : bins ≡ 0 → ⊥) {cells : ℕ} (ce : cells ≡ radials * bins) where
-        pub header-large : 4000000 < cells
-            → refused (kind 16 (nat radials ∷ nat bins ∷ nat cells ∷ nat 4000000 ∷ [])) ≡ outcome (walk (packetHeader packet) s 18)
-        header-large h = rw (answer, ← re, ← be, ← ce) (simp (ne-eqb _ _ some, lt-ltb _ _ h))
-
-        module _ (small : cells ≤ 4000000) {first : ℕ} (fe : first ≡ firstOf packet s) where
-          pub header-first : (first ≡ 0 → ⊥) → refused (kind 17 (nat first ∷ [])) ≡ outcome (walk (packetHeader packet) s 18)
-          header-first h = rw (answer, ← re, ← be, ← ce, ← fe) (simp (ne-eqb _ _ some, le-ltb _ _ small, ne-eqb _ _ h))
-
-          module _ (zero : first ≡ 0) {room : ℕ} (ro : room ≡ length s - 30) {over : Bool} (ov : over ≡ overBody packet radials bins room) where
-            pub header-over : {needed : ℕ} → over ≡ true → needed ≡ radials * (6 + bins)
-                → refused (kind 18 (nat radials ∷ nat bins ∷ nat needed ∷ nat room ∷ [])) ≡ outcome (walk (packetHeader packet) s 18)
-            header-over h k = rw (answer, ← re, ← be, ← ce, ← fe, ← ro, ← ov) (simp (ne-eqb _ _ some, le-ltb _ _ small, eq-eqb _ _ zero, h, k))
-
-            pub header-whole : {range : ℕ} → over ≡ false → range ≡ u16At s 26
-                → accepted (record { radials = radials; bins = bins; range = range }) ≡ outcome (walk (packetHeader packet) s 18)
-            header-whole h k = rw (answer, ← re, ← be, ← ce, ← fe, ← ro, ← ov) (simp (ne-eqb _ _ some, le-ltb _ _ small, eq-eqb _ _ zero, h, k))
+    pub header-counts : {r : Result Header} → r ≡ outcome (walk (counts packet (firstOf packet s)) s 20) → r ≡ outcome (walk (packetHeader packet) s 18)
+    header-counts e = e ∙ ap outcome (checked-is packet (firstOf packet s) s) ∙ sym answer

@@ -3,7 +3,7 @@ use Prim.Native.Nat.{ℕ, zero, suc, _+_, _-_, _*_, _≤_, _<_}
 use native.Mathlib.Omega.{arith}
 use mathlib.Core.List.{List, [], _∷_}
 use mathlib.Core.Bool.{Bool, true, false, cond, not, _&&_, _||_}
-use mathlib.Core.Path.{_≡_, refl, sym, ap, ap₂, _∙_}
+use mathlib.Core.Path.{_≡_, refl, sym, ap, ap₂, _∙_, fun-ext}
 use lib.ListN.{length, getD, take, drop}
 use lib.Seq.{slice, take-length}
 use lib.Dec.{ltb, eqb}
@@ -15,13 +15,13 @@ use borrow.Author.Tests.{lt-ltb, le-ltb, ltb-true, ltb-false, ne-eqb}
 use Rattle.bytes.specs.Bytes.{u16At, u32At, i32At, signed}
 use Rattle.bytes.specs.Refusal.{Refusal, kind, nat, whole, item}
 use Rattle.bytes.specs.Result.{Result, accepted, refused}
-use Rattle.bytes.specs.Reading.{Read, gaps, give, _>>=_, _>>_, remaining, u16, u32, unread, refuse-if, run, Given, Ended, passed, halted, outcome, walk}
+use Rattle.bytes.specs.Reading.{Read, Flat, gaps, give, left, number, half, _>>=_, _>>_, remaining, u16, u32, unread, refuse-if, run, Given, Ended, passed, halted, outcome, walk}
 use Rattle.bytes.specs.declared.error.XdrItem.the-variants as Item
-use Rattle.bytes.proofs.Readings.{part-slice, past-test}
+use Rattle.bytes.proofs.Readings.{part-slice, past-test, walk-checks}
 use Rattle.bytes.proofs.Runs.{then-then, Plain, plain-then, plain-by, plain-give, plain-check, plain-remaining, plain-u16, plain-unread, shifted, run-within}
 use Rattle.symbology.proofs.Modes.{mode-stop, mode-passed, mode-halted, mode-checks}
 use Rattle.xdr.specs.Xdr.{atLeast0}
-use Rattle.symbology.specs.Symbology.{Sweep, Header, frame, radial, radialWalk, firstBin, overBody, packetHeader, radialPacket, payload, bodyShort, genericPacket, packetOf, symbology}
+use Rattle.symbology.specs.Symbology.{Sweep, Header, frame, radial, radialWalk, firstBin, overBody, counts, packetHeader, radialPacket, payload, bodyShort, genericPacket, packetOf, withCode, blockHeader, symbology}
 use Rattle.symbology.specs.Walk.{inMode, beamSpan, anyFrame, anyRadial, anyWalk, firstOf, sweepFrom, Planned, Plotted, Plots, inPart, Plans}
 use Rattle.symbology.proofs.Beams.{header-is}
 use Rattle.symbology.proofs.Levels.{signed-low, signed-high, u32-small}
@@ -48,13 +48,13 @@ plotted p end o i w =
 -- ---- packets 16 and AF1F
 
 -- the radials are the one walk's
-radial-is : (packet : Packet) (radials bins r : ℕ) → (packet ≡ Packet28 → ⊥) → radial packet radials bins r ≡ anyRadial packet radials bins r
+pub radial-is : (packet : Packet) (radials bins r : ℕ) → (packet ≡ Packet28 → ⊥) → radial packet radials bins r ≡ anyRadial packet radials bins r
 unfolding radial anyRadial anyFrame beamSpan _>>=_
 radial-is Packet16 radials bins r old = sym (then-then _ _ (frame Packet16 radials bins r))
 radial-is PacketAf1f radials bins r old = sym (then-then _ _ (frame PacketAf1f radials bins r))
 radial-is Packet28 radials bins r old = absurd (old refl)
 
-walk-is : (packet : Packet) (radials bins n r : ℕ) → (packet ≡ Packet28 → ⊥) → radialWalk packet radials bins n r ≡ anyWalk packet radials bins n r
+pub walk-is : (packet : Packet) (radials bins n r : ℕ) → (packet ≡ Packet28 → ⊥) → radialWalk packet radials bins n r ≡ anyWalk packet radials bins n r
 unfolding radialWalk anyWalk
 walk-is packet radials bins zero r old = refl
 walk-is packet radials bins (suc n) r old =
@@ -66,21 +66,24 @@ plain-first Packet16 = plain-u16
 plain-first PacketAf1f = plain-by _ _ (plain-unread 2) (plain-give 0)
 plain-first Packet28 = plain-give 0
 
+pub plain-counts : (packet : Packet) (first : ℕ) → Plain (counts packet first)
+plain-counts packet first =
+    plain-then _ (λ bins. plain-by _ _ (plain-unread 4) (plain-then _ (λ range. plain-then _ (λ radials.
+    plain-by _ _ (plain-check _ _) (plain-by _ _ (plain-check _ _) (plain-by _ _ (plain-check _ _)
+    (plain-then _ (λ room. plain-by _ _ (plain-check _ _) (plain-give _)) _ plain-remaining)))) _ plain-u16) _ plain-u16)) _ plain-u16
+
 pub plain-header : (packet : Packet) → Plain (packetHeader packet)
 unfolding packetHeader
-plain-header packet =
-    plain-then _ (λ avail. plain-by _ _ (plain-check _ _) (plain-then _ (λ first. plain-then _ (λ bins. plain-by _ _ (plain-unread 4)
-    (plain-then _ (λ range. plain-then _ (λ radials. plain-by _ _ (plain-check _ _) (plain-by _ _ (plain-check _ _) (plain-by _ _ (plain-check _ _)
-    (plain-then _ (λ room. plain-by _ _ (plain-check _ _) (plain-give _)) _ plain-remaining)))) _ plain-u16) _ plain-u16)) _ plain-u16) _ (plain-first packet))) _ plain-remaining
+plain-header packet = plain-then _ (λ avail. plain-by _ _ (plain-check _ _) (plain-then _ (λ first. plain-counts packet first) _ (plain-first packet))) _ plain-remaining
 
 abbrev figuresOf : Packet → Header → Figures
 figuresOf packet h = record { packet = packet; «n_radials» = h .radials; «n_bins» = h .bins; geometry = RangeScale (h .range) }
 
-halt-of : {A : Type 0} (e : Ended A) {x : Refusal} → refused x ≡ outcome e → (q : ℕ) × (halted x q ≡ e)
+pub halt-of : {A : Type 0} (e : Ended A) {x : Refusal} → refused x ≡ outcome e → (q : ℕ) × (halted x q ≡ e)
 halt-of (passed b m) h = let z : _≡_ {A = ℕ} 0 1 = cc in absurd (omega arith)
 halt-of (halted y m) {x} h = let l : x ≡ y = cc in (m, ap (λ z. halted z m) l)
 
-pass-of : {A : Type 0} (e : Ended A) {a : A} → accepted a ≡ outcome e → (q : ℕ) × (passed a q ≡ e)
+pub pass-of : {A : Type 0} (e : Ended A) {a : A} → accepted a ≡ outcome e → (q : ℕ) × (passed a q ≡ e)
 pass-of (passed b m) {a} h = let l : a ≡ b = cc in (m, ap (λ z. passed z m) l)
 pass-of (halted x m) h = let z : _≡_ {A = ℕ} 0 1 = cc in absurd (omega arith)
 
@@ -218,46 +221,81 @@ module _ (s : List ℕ) where
 
 -- ---- the body
 
-module _ (m : Bool) (s : List ℕ) where
-  symbology-is : run (inMode m symbology) s 0
-      ≡ cond (ltb (length s) 18) (refused (kind 12 (nat (length s) ∷ [])))
-      (cond (not (eqb (u16At s 0) 65535 && eqb (u16At s 2) 1)) (refused (kind 13 (whole (signed 32768 (u16At s 0)) ∷ whole (signed 32768 (u16At s 2)) ∷ [])))
-      (run (inMode m (packetOf (u16At s 16))) s 18))
-  unfolding symbology remaining unread u16 run _>>=_ _>>_ inMode gaps
-  symbology-is = let e : length s - 0 ≡ length s = omega arith in rw (← e) (by m)
-    where
-      by : (m : Bool) → run (inMode m symbology) s 0
-          ≡ cond (ltb (length s - 0) 18) (refused (kind 12 (nat (length s - 0) ∷ [])))
-          (cond (not (eqb (u16At s 0) 65535 && eqb (u16At s 2) 1)) (refused (kind 13 (whole (signed 32768 (u16At s 0)) ∷ whole (signed 32768 (u16At s 2)) ∷ [])))
-          (run (inMode m (packetOf (u16At s 16))) s 18))
-      by true = mode-checks true _ _ _ s 0 (mode-checks true _ _ _ s 4 refl)
-      by false = mode-checks false _ _ _ s 0 (mode-checks false _ _ _ s 4 refl)
+module _ (s : List ℕ) where
+  abbrev Coded : Ended ℕ
+  Coded =
+      cond (not (eqb (u16At s 0) 65535 && eqb (u16At s 2) 1)) (halted (kind 13 (whole (signed 32768 (u16At s 0)) ∷ whole (signed 32768 (u16At s 2)) ∷ [])) 4)
+      (passed (u16At s 16) 18)
 
-  pub body-cut : length s < 18 → refused (kind 12 (nat (length s) ∷ [])) ≡ run (inMode m symbology) s 0
-  body-cut h = rw symbology-is (simp (lt-ltb _ _ h))
+  block-is : walk blockHeader s 0 ≡ cond (ltb (length s) 18) (halted (kind 12 (nat (length s) ∷ [])) 0) Coded
+  unfolding remaining unread u16 walk _>>=_ _>>_
+  block-is =
+      let e : length s - 0 ≡ length s = omega arith in
+      walk-checks _ _ _ s 0 (walk-checks _ _ _ s 4 refl) ∙ ap (λ (n : ℕ). cond (ltb n 18) (halted (kind 12 (nat n ∷ [])) 0) Coded) e
+
+  pub block-cut : length s < 18 → refused (kind 12 (nat (length s) ∷ [])) ≡ outcome (walk blockHeader s 0)
+  block-cut h = rw block-is (simp (lt-ltb _ _ h))
 
   module _ (long : 18 ≤ length s) {divider block : ℕ} (de : divider ≡ u16At s 0) (be : block ≡ u16At s 2) {header : Bool} (he : header ≡ (eqb divider 65535 && eqb block 1)) where
-    pub body-other : {d b : ℤ} → not header ≡ true → d ≡ signed 32768 divider → b ≡ signed 32768 block → refused (kind 13 (whole d ∷ whole b ∷ [])) ≡ run (inMode m symbology) s 0
-    body-other h k l = rw (symbology-is, ← de, ← be, ← he) (simp (le-ltb _ _ long, h, k, l))
+    pub block-other : {d b : ℤ} → not header ≡ true → d ≡ signed 32768 divider → b ≡ signed 32768 block → refused (kind 13 (whole d ∷ whole b ∷ [])) ≡ outcome (walk blockHeader s 0)
+    block-other h k l = rw (block-is, ← de, ← be, ← he) (simp (le-ltb _ _ long, h, k, l))
 
-    module _ (known : not header ≡ false) {code : ℕ} (ce : code ≡ u16At s 16) where
-      body-packet : run (inMode m symbology) s 0 ≡ run (inMode m (packetOf code)) s 18
-      body-packet = rw (symbology-is, ← de, ← be, ← he, ← ce) (simp (le-ltb _ _ long, known))
+    pub block-code : {code : ℕ} → not header ≡ false → code ≡ u16At s 16 → accepted code ≡ outcome (walk blockHeader s 0)
+    block-code h k = rw (block-is, ← de, ← be, ← he) (simp (le-ltb _ _ long, h, k))
 
-      pub body-16 : code ≡ 16 → run (inMode m symbology) s 0 ≡ run (inMode m (radialPacket Packet16)) s 18
+  pub code-at : {code : ℕ} → accepted code ≡ outcome (walk blockHeader s 0) → (18 ≤ length s) × (passed code 18 ≡ walk blockHeader s 0)
+  code-at {code} e =
+      let k = pass-of _ e in
+      let h₁ = past-test (ltb (length s) 18) _ _ _ (k .1 ∙ block-is) in
+      let h₂ = past-test (not (eqb (u16At s 0) 65535 && eqb (u16At s 2) 1)) _ _ _ (h₁ .1) in
+      last (k .0) (ltb-false _ _ (h₁ .0)) (h₂ .1) (k .1)
+    where
+      last : (q : ℕ) → 18 ≤ length s → passed code q ≡ passed (u16At s 16) 18 → passed code q ≡ walk blockHeader s 0 → (18 ≤ length s) × (passed code 18 ≡ walk blockHeader s 0)
+      last q long h k = let n : q ≡ 18 = cc in (long, ap (passed code) (sym n) ∙ k)
+
+-- a reading that goes on by the code is the block header, and what follows it
+check-then : {W A B : Type 0} (b : Bool) (x : Refusal) (f : Unit {0} → Flat A) (g : A → Read W B) (k : Unit {0} → Read W B) → f tt >>= g ≡ k tt
+    → (refuse-if b x >>= f) >>= g ≡ refuse-if b x >>= k
+unfolding refuse-if _>>=_
+check-then true x f g k h = refl
+check-then false x f g k h = h
+
+pub block-then : {W A : Type 0} (next : ℕ → Read W A) → blockHeader >>= next ≡ withCode next
+unfolding remaining u16 unread _>>=_ _>>_
+block-then next =
+    ap left (fun-ext (λ n. check-then _ _ _ next _ (ap (number half) (fun-ext (λ divider. ap (number half) (fun-ext (λ block. check-then _ _ _ next _ refl)))))))
+
+pub plain-block : Plain blockHeader
+plain-block =
+    plain-then _ (λ n. plain-by _ _ (plain-check _ _) (plain-then _ (λ divider. plain-then _ (λ block. plain-by _ _ (plain-check _ _) (plain-by _ _ (plain-unread 12)
+    (plain-then _ (λ code. plain-give _) _ plain-u16))) _ plain-u16) _ plain-u16)) _ plain-remaining
+
+module _ (m : Bool) (s : List ℕ) where
+  body-is : run (inMode m symbology) s 0 ≡ run (inMode m (blockHeader >>= packetOf)) s 0
+  unfolding symbology
+  body-is = ap (λ (t : Read (Unit {0}) Sweep). run (inMode m t) s 0) (sym (block-then packetOf))
+
+  pub body-refused : {x : Refusal} → refused x ≡ outcome (walk blockHeader s 0) → refused x ≡ run (inMode m symbology) s 0
+  body-refused e = mode-halted m packetOf blockHeader plain-block s 0 (halt-of _ e .1) ∙ sym body-is
+
+  module _ {code : ℕ} (e : accepted code ≡ outcome (walk blockHeader s 0)) where
+    pub body-packet : run (inMode m symbology) s 0 ≡ run (inMode m (packetOf code)) s 18
+    body-packet = body-is ∙ mode-passed m packetOf blockHeader plain-block s 0 (code-at s e .1)
+
+    pub body-16 : code ≡ 16 → run (inMode m symbology) s 0 ≡ run (inMode m (radialPacket Packet16)) s 18
+    unfolding packetOf
+    body-16 h = body-packet ∙ rw h refl
+
+    module _ (no16 : code ≡ 16 → ⊥) where
+      pub body-af1f : code ≡ 44831 → run (inMode m symbology) s 0 ≡ run (inMode m (radialPacket PacketAf1f)) s 18
       unfolding packetOf
-      body-16 h = body-packet ∙ rw h refl
+      body-af1f h = body-packet ∙ rw h refl
 
-      module _ (no16 : code ≡ 16 → ⊥) where
-        pub body-af1f : code ≡ 44831 → run (inMode m symbology) s 0 ≡ run (inMode m (radialPacket PacketAf1f)) s 18
+      module _ (noAf1f : code ≡ 44831 → ⊥) where
+        pub body-28 : code ≡ 28 → run (inMode m symbology) s 0 ≡ run (inMode m genericPacket) s 18
         unfolding packetOf
-        body-af1f h = body-packet ∙ rw h refl
+        body-28 h = body-packet ∙ rw h refl
 
-        module _ (noAf1f : code ≡ 44831 → ⊥) where
-          pub body-28 : code ≡ 28 → run (inMode m symbology) s 0 ≡ run (inMode m genericPacket) s 18
-          unfolding packetOf
-          body-28 h = body-packet ∙ rw h refl
-
-          pub body-unknown : {c : ℤ} → (code ≡ 28 → ⊥) → c ≡ signed 32768 code → refused (kind 14 (whole c ∷ [])) ≡ run (inMode m symbology) s 0
-          unfolding packetOf run
-          body-unknown h k = rw (body-packet) (simp (ne-eqb _ _ no16, ne-eqb _ _ noAf1f, ne-eqb _ _ h, mode-stop, k))
+        pub body-unknown : {c : ℤ} → (code ≡ 28 → ⊥) → c ≡ signed 32768 code → refused (kind 14 (whole c ∷ [])) ≡ run (inMode m symbology) s 0
+        unfolding packetOf run
+        body-unknown h k = rw (body-packet) (simp (ne-eqb _ _ no16, ne-eqb _ _ noAf1f, ne-eqb _ _ h, mode-stop, k))

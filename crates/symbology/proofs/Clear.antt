@@ -17,8 +17,8 @@ use Rattle.bytes.specs.Result.{Result, accepted, refused, refuse, then}
 use Rattle.bytes.specs.Reading.{run, gaps, Given, outcome, walk, give}
 use Rattle.bytes.proofs.Results.{then-by}
 use Rattle.symbology.specs.Answers.{Picture, pictureOf, gapPictureOf, joined}
-use Rattle.symbology.specs.Clear.{ClearScan, emptyPicture, clearAnswer, unmarked, FirstBinByte, ReadByte, Agrees}
-use Rattle.symbology.specs.Symbology.{Sweep, overBody, packetHeader, radialPacket, symbology}
+use Rattle.symbology.specs.Clear.{codeOf, ClearScan, emptyPicture, clearAnswer, unmarked, FirstBinByte, ReadByte, Agrees}
+use Rattle.symbology.specs.Symbology.{Sweep, Header, overBody, counts, packetHeader, blockHeader, radialPacket, symbology}
 use Rattle.symbology.specs.Walk.{inMode, anyWalk, firstOf}
 use Rattle.symbology.specs.Places.{place, UnreadByte}
 use Rattle.symbology.specs.Words.{IsUnread, DamageInWords}
@@ -26,8 +26,8 @@ use Rattle.symbology.specs.declared.figures.Packet.{Packet}
 use Rattle.symbology.specs.declared.figures.Packet.the-variants.{Packet16, PacketAf1f, Packet28}
 use Rattle.symbology.specs.declared.figures.Figures.{Figures}
 use Rattle.symbology.proofs.Modes.{mode-give}
-use Rattle.symbology.proofs.Beams.{header-empty, header-first, header-whole}
-use Rattle.symbology.proofs.Bodies.{body-16, body-af1f, radial-header-refused, radial-run}
+use Rattle.symbology.proofs.Beams.{header-counts, counts-empty, counts-first, counts-whole}
+use Rattle.symbology.proofs.Bodies.{block-code, body-16, body-af1f, radial-header-refused, radial-run}
 
 -- no radials need no bytes
 none-over : (packet : Packet) (bins room : ℕ) → overBody packet 0 bins room ≡ false
@@ -47,11 +47,13 @@ clearRead packet b =
     (accepted (nothing packet (u16At b 20) (u16At b 26))))
 
 module _ (packet : Packet) (b : List ℕ) (c : ClearScan packet b) where
+  coded : accepted (codeOf packet) ≡ outcome (walk blockHeader b 0)
+  coded = block-code b (omega (arith, c .long)) (sym (c .divider)) (sym (c .block)) refl refl (sym (c .code))
+
   module _ (m : Bool) where
     packet-run : (p : Packet) → packet ≡ p → run (inMode m symbology) b 0 ≡ run (inMode m (radialPacket packet)) b 18
-    packet-run Packet16 e = rw e (body-16 m b (omega (arith, c .long)) (sym (c .divider)) (sym (c .block)) refl refl (sym (c .code)) (rw e refl))
-    packet-run PacketAf1f e =
-        rw e (body-af1f m b (omega (arith, c .long)) (sym (c .divider)) (sym (c .block)) refl refl (sym (c .code)) (rw e (λ z. omega (arith, z))) (rw e refl))
+    packet-run Packet16 e = rw e (body-16 m b coded (rw e refl))
+    packet-run PacketAf1f e = rw e (body-af1f m b coded (rw e (λ z. omega (arith, z))) (rw e refl))
     packet-run Packet28 e = absurd (c .old e)
 
     refused-is : {x : Refusal} → refused x ≡ outcome (walk (packetHeader packet) b 18) → run (inMode m symbology) b 0 ≡ refused x
@@ -71,14 +73,17 @@ module _ (packet : Packet) (b : List ℕ) (c : ClearScan packet b) where
         cells : 0 ≡ 0 * u16At b 20
         cells = omega arith
 
+        counted : {r : Result Header} → r ≡ outcome (walk (counts packet (firstOf packet b)) b 20) → r ≡ outcome (walk (packetHeader packet) b 18)
+        counted e = header-counts packet b (c .old) (c .long) e
+
         by : (e f : Bool) → eqb (u16At b 20) 0 ≡ e → eqb (firstOf packet b) 0 ≡ f
             → run (inMode m symbology) b 0
             ≡ refuse e (kind 15 (nat 0 ∷ nat (u16At b 20) ∷ []))
             (refuse (not f) (kind 17 (nat (firstOf packet b) ∷ [])) (accepted (nothing packet (u16At b 20) (u16At b 26))))
-        by true f h k = refused-is (header-empty packet b (c .old) (c .long) none refl (eqb-true _ _ h))
-        by false false h k = refused-is (header-first packet b (c .old) (c .long) none refl (eqb-false _ _ h) cells (omega arith) refl (eqb-false _ _ k))
+        by true f h k = refused-is (counted (counts-empty packet (firstOf packet b) b none refl (eqb-true _ _ h)))
+        by false false h k = refused-is (counted (counts-first packet (firstOf packet b) b none refl (eqb-false _ _ h) cells (omega arith) (eqb-false _ _ k)))
         by false true h k =
-            whole-is (header-whole packet b (c .old) (c .long) none refl (eqb-false _ _ h) cells (omega arith) refl (eqb-true _ _ k) refl refl (none-over packet _ _) refl)
+            whole-is (counted (counts-whole packet (firstOf packet b) b none refl (eqb-false _ _ h) cells (omega arith) (eqb-true _ _ k) refl refl (none-over packet _ _) refl))
 
   -- what is made of a reading of no rows
   made : {A : Type 0} (e f : Bool) (x y : Refusal) (g : Given Sweep) (make : Given Sweep → A)

@@ -8,6 +8,7 @@ use mathlib.Core.Path.{_≡_, refl, sym, ap, _∙_}
 use lib.ListN.{length, getD, take, drop, replicate, length-append, length-take, length-drop, length-replicate, replicate-append-replicate, drop-of-length-le}
 use lib.Seq.{take-append-add, take-append-le, take-all, take-at, length-take-le}
 use borrow.Rule.Slice.PartMut.{putMid}
+use Rattle.bytes.proofs.Parts.{part-take, part-long}
 use Rattle.symbology.specs.Rows.{runOf, colourOf, reach, cells}
 use Rattle.symbology.proofs.RunLoops.{left-cons, Reached, reached-first, reached-end, reached-over, reached-turn}
 
@@ -69,6 +70,17 @@ module _ {runs row₀ row : List ℕ} {i gate : ℕ} (full : reach (length row�
     pub painted-over : length row - gate < runOf b → row ≡ take (length row₀) (cells runs)
     painted-over h = stop (reached-over (inv .reached) inside is (rw (inv .long) at h))
 
+    -- the run's cells stand after those that were there
+    pub painted-on : (row' : List ℕ) → runOf b ≤ length row - gate → length row' ≡ length row → take (gate + runOf b) row' ≡ take gate row ++ replicate (runOf b) (colourOf b)
+        → Painted runs row₀ row' (i + 1) (gate + runOf b)
+    painted-on row' h long front =
+        let k : length row₀ - gate ≡ runOf b + (length row₀ - (gate + runOf b)) = omega (arith, inv .long) in
+        record {
+          reached = reached-turn (inv .reached) inside is (omega (arith, inv .long));
+          long = long ∙ inv .long;
+          known = inv .known ∙ rw (front, append-assoc, k, left-cons runs i inside, ← is) (ap (λ (l : List ℕ). take gate row ++ l) (cells-more b _ _));
+        }
+
     pub painted-turn : (ys : List ℕ) {v : ℕ} → runOf b ≤ 16 → runOf b ≤ length row - gate → length ys ≡ length row - gate → v ≡ colourOf b
         → ys ≡ replicate (min 16 (length (take (length row - gate) (drop gate row)))) v ++ drop 16 (take (length row - gate) (drop gate row))
         → Painted runs row₀ (putMid gate (length row - gate) row ys) (i + 1) (gate + runOf b)
@@ -76,12 +88,17 @@ module _ {runs row₀ row : List ℕ} {i gate : ℕ} (full : reach (length row�
         let size : length (take (length row - gate) (drop gate row)) ≡ length row - gate = simp (length-take, length-drop) (omega arith) in
         let run : take (runOf b) ys ≡ replicate (runOf b) (colourOf b) =
         spread-front (runOf b) v (take (length row - gate) (drop gate row)) few (rw size h) whole ∙ ap (replicate (runOf b)) colour in
-        let k : length row₀ - gate ≡ runOf b + (length row₀ - (gate + runOf b)) = omega (arith, inv .long) in
         let within : gate ≤ length row = omega (arith, inv .reached .within, inv .long) in
-        let front : take (gate + runOf b) (putMid gate (length row - gate) row ys) ≡ take gate row ++ replicate (runOf b) (colourOf b) =
-        take-past gate (runOf b) row _ within ∙ rw (take-append-le (runOf b) ys (drop (length row - gate) (drop gate row)) (omega (arith, long)), run) in
-        record {
-          reached = reached-turn (inv .reached) inside is (omega (arith, inv .long));
-          long = put-long row ys gate within long ∙ inv .long;
-          known = inv .known ∙ rw (front, append-assoc, k, left-cons runs i inside, ← is) (ap (λ (l : List ℕ). take gate row ++ l) (cells-more b _ _));
-        }
+        painted-on (putMid gate (length row - gate) row ys) h (put-long row ys gate within long)
+        (take-past gate (runOf b) row _ within ∙ rw (take-append-le (runOf b) ys (drop (length row - gate) (drop gate row)) (omega (arith, long)), run))
+
+    -- a part of just these places comes back filled with the run's colour
+    pub painted-run : (ys : List ℕ) {v : ℕ} → runOf b ≤ length row - gate → v ≡ colourOf b → ys ≡ replicate (length (take (gate + runOf b - gate) (drop gate row))) v
+        → Painted runs row₀ (putMid gate (gate + runOf b - gate) row ys) (i + 1) (gate + runOf b)
+    painted-run ys {v} h colour whole =
+        let n : gate + runOf b - gate ≡ runOf b = omega arith in
+        let inner : gate + runOf b ≤ length row = omega (arith, inv .reached .within, inv .long) in
+        let size : length (take (runOf b) (drop gate row)) ≡ runOf b = length-take-le (runOf b) (drop gate row) (omega (arith, length-drop gate row)) in
+        let same : ys ≡ replicate (runOf b) (colourOf b) = (rw (n, size, colour) at whole) in
+        let many : length ys ≡ runOf b = ap length same ∙ length-replicate (runOf b) (colourOf b) in
+        painted-on (putMid gate (gate + runOf b - gate) row ys) h (part-long row ys gate (runOf b) inner many) (part-take row ys gate (runOf b) inner many ∙ ap (λ (l : List ℕ). take gate row ++ l) same)

@@ -11,7 +11,7 @@ use Rattle.bytes.specs.Refusal.{kind, float, buffer, refusalOf}
 use Rattle.bytes.specs.Result.{Result, accepted, refused, refuse, then, lent}
 use Rattle.bytes.specs.Reading.{run, gaps}
 use Rattle.bytes.specs.declared.error.Buffer.the-variants as Buffer
-use Rattle.symbology.specs.Symbology.{symbology}
+use Rattle.symbology.specs.Symbology.{Header, symbology}
 use Rattle.symbology.specs.declared.figures.Figures.{Figures}
 use Rattle.symbology.specs.declared.figures.Packet.{Packet}
 use Rattle.symbology.specs.declared.figures.Packet.the-variants.{Packet16, PacketAf1f, Packet28}
@@ -24,6 +24,10 @@ use Rattle.symbology.specs.declared.figures.FiguresRead.{FiguresRead}
 use Rattle.symbology.specs.declared.figures.FiguresRead.the-variants as FiguresRead
 use Rattle.symbology.specs.declared.trailing.Check.{Check}
 use Rattle.symbology.specs.declared.trailing.Check.the-variants as Check
+use Rattle.symbology.specs.declared.symbology.CodeRead.{CodeRead}
+use Rattle.symbology.specs.declared.symbology.CodeRead.the-variants as CodeRead
+use Rattle.symbology.specs.declared.radials.HeaderRead.{HeaderRead}
+use Rattle.symbology.specs.declared.radials.HeaderRead.the-variants as HeaderRead
 
 abbrev pub checkOf : Check → Result (Unit {0})
 checkOf Check.Passed = accepted tt
@@ -32,6 +36,15 @@ checkOf (Check.Refused e) = refused (refusalOf e)
 abbrev pub figuresOf : FiguresRead → Result Figures
 figuresOf (FiguresRead.Value f) = accepted f
 figuresOf (FiguresRead.Refused e) = refused (refusalOf e)
+
+-- the answers of the block header and of the packet header
+abbrev pub codeReadOf : CodeRead → Result ℕ
+codeReadOf (CodeRead.Value code) = accepted code
+codeReadOf (CodeRead.Refused e) = refused (refusalOf e)
+
+abbrev pub headerOf : HeaderRead → Result Header
+headerOf (HeaderRead.Value h) = accepted (record { radials = h .«n_radials»; bins = h .«n_bins»; range = h .«range_scale» })
+headerOf (HeaderRead.Refused e) = refused (refusalOf e)
 
 -- rows one after the other
 unfoldable pub joined : List (List ℕ) → List ℕ

@@ -269,8 +269,9 @@ packetOf code =
     (cond (eqb code 28) genericPacket
     (stop (kind 14 (whole (signed 32768 code) ∷ [])))))
 
-unfoldable pub symbology : Read (Unit {0}) Sweep
-symbology = do
+-- bytes 0-17: 12, 13, and the packet's code, by which the reading goes on
+abbrev pub withCode : {W A : Type 0} → (ℕ → Read W A) → Read W A
+withCode next = do
   n ← remaining
   refuse-if (ltb n 18) (kind 12 (nat n ∷ []))
   divider ← u16
@@ -278,4 +279,11 @@ symbology = do
   refuse-if (not (eqb divider 0xFFFF && eqb block 1)) (kind 13 (whole (signed 32768 divider) ∷ whole (signed 32768 block) ∷ []))
   unread 12
   code ← u16
-  packetOf code
+  next code
+
+-- the code alone
+abbrev pub blockHeader : Flat ℕ
+blockHeader = withCode give
+
+unfoldable pub symbology : Read (Unit {0}) Sweep
+symbology = withCode packetOf

@@ -19,7 +19,7 @@ use Rattle.symbology.specs.Centre.{centre}
 use Rattle.symbology.specs.Rows.{rowOf, codesOf, FullRow}
 use Rattle.symbology.specs.Answers.{joined, shown, markOf, admit, decodeFor, gapDecodeFor, Decodes, DecodesWithGaps}
 use Rattle.symbology.specs.Places.{Enough}
-use Rattle.symbology.specs.Symbology.{Sweep, Header, XdrRadial, covered, frame, xdrFrame, Gates28, component, only}
+use Rattle.symbology.specs.Symbology.{Sweep, XdrRadial, covered, frame, xdrFrame, Gates28, component, only}
 use Rattle.symbology.specs.declared.figures.Packet.{Packet}
 use Rattle.symbology.specs.declared.figures.Packet.the-variants.{Packet16, PacketAf1f, Packet28}
 use Rattle.xdr.specs.declared.xdr.Step.{Step}
@@ -35,8 +35,6 @@ use Rattle.symbology.specs.declared.figures.Figures.{Figures}
 use Rattle.symbology.specs.declared.figures.Terms.{Terms}
 use Rattle.symbology.specs.declared.figures.FiguresRead.{FiguresRead}
 use Rattle.symbology.specs.declared.figures.FiguresRead.the-variants as FiguresRead
-use Rattle.symbology.specs.declared.radials.HeaderRead.{HeaderRead}
-use Rattle.symbology.specs.declared.radials.HeaderRead.the-variants as HeaderRead
 use Rattle.symbology.specs.declared.spans.SpanRead.{SpanRead}
 use Rattle.symbology.specs.declared.spans.SpanRead.the-variants as SpanRead
 use Rattle.symbology.specs.declared.spans.Next.{Next}
@@ -188,11 +186,7 @@ xdrRadialThen centre bins (Step.Refused e p) = halted (refusalOf e) p
 abbrev pub xdrRadialOf : FrameStep → Ended XdrRadial
 xdrRadialOf x = xdrRadialThen (x .centre) (x .bins) (x .then)
 
--- the packet header's answer; and its first bin, which packet 16 alone has
-abbrev pub headerOf : HeaderRead → Result Header
-headerOf (HeaderRead.Value h) = accepted (record { radials = h .«n_radials»; bins = h .«n_bins»; range = h .«range_scale» })
-headerOf (HeaderRead.Refused e) = refused (refusalOf e)
-
+-- the first bin, which packet 16 alone has
 abbrev pub firstOf : Packet → List ℕ → ℕ
 firstOf Packet16 body = u16At body 18
 firstOf PacketAf1f body = 0

@@ -3,7 +3,7 @@ mod centre;
 mod components;
 pub mod figures;
 mod generic;
-mod radials;
+pub mod radials;
 mod rows;
 mod spans;
 pub mod symbology;

@@ -9,8 +9,9 @@ ghost use lib.Dec.{eqb, ltb};
 ghost use lib.ListN.{length};
 ghost use Rattle.bytes.specs.Bytes.{u16At};
 ghost use Rattle.bytes.specs.Reading.{walk, outcome};
-ghost use Rattle.symbology.specs.Symbology.{covered, countWrong, overBody, packetHeader};
-ghost use Rattle.symbology.specs.Walk.{beamSpan, placeOf, placed, headerOf, firstOf};
+ghost use Rattle.symbology.specs.Symbology.{covered, countWrong, overBody, counts, packetHeader};
+ghost use Rattle.symbology.specs.Answers.{headerOf};
+ghost use Rattle.symbology.specs.Walk.{beamSpan, placeOf, placed, firstOf};
 
 // The most cells that a picture may have, of any packet.
 pub const MAX_GATE_COUNT: usize = 4000000;
@@ -117,7 +118,7 @@ fn first_bin(packet: Packet, body: &[u8]) -> usize
 }
 
 // The halfword at a place, as a number whose bound is known.
-fn count_at(body: &[u8], at: usize) -> usize
+pub fn count_at(body: &[u8], at: usize) -> usize
     ensures { λ r. ⌜ (r ≡ u16At (now (body .entry)) at) × (r < 65536) ⌝ }
 {
     bytes::bytes::u16_at(body, at) as usize
@@ -143,16 +144,10 @@ fn is_over_body(packet: Packet, n_radials: usize, n_bins: usize, room: usize) ->
     }
 }
 
-// The packet header from byte 18 on: 12, 15, 16; packet 16 also 17, 18. No radials is no refusal: a clear scan.
-pub fn read_packet_header(body: &[u8], packet: Packet) -> HeaderRead
-    requires { ⌜ (18 ≤ length (now body)) × (packet ≡ Packet.Packet28 → ⊥) ⌝ }
-    ensures { λ r. ⌜ headerOf r ≡ outcome (walk (packetHeader packet) (now (body .entry)) 18) ⌝ }
+// The counts from byte 20 on: 15, 16; 17 for a first bin that is not 0; of packet 16 also 18. No radials is no refusal: a clear scan.
+pub fn read_counts(body: &[u8], packet: Packet, first: usize) -> HeaderRead
+    ensures { λ r. ⌜ headerOf r ≡ outcome (walk (counts packet first) (now (body .entry)) 20) ⌝ }
 {
-    let len = body.len();
-    if len < 30 {
-        return HeaderRead::Refused(Level3DecodeError::SymbologyTruncated { len });
-    }
-    let first = first_bin(packet, body);
     let n_bins = count_at(body, 20);
     let range_scale = bytes::bytes::u16_at(body, 26);
     let n_radials = count_at(body, 28);
@@ -171,7 +166,7 @@ pub fn read_packet_header(body: &[u8], packet: Packet) -> HeaderRead
     if first != 0 {
         return HeaderRead::Refused(Level3DecodeError::NonZeroFirstBin(first));
     }
-    let available = len - 30;
+    let available = bytes::bytes::remaining(body.len(), 30);
     if is_over_body(packet, n_radials, n_bins, available) {
         return HeaderRead::Refused(Level3DecodeError::AllocationExceedsBody {
             n_radials,
@@ -185,4 +180,16 @@ pub fn read_packet_header(body: &[u8], packet: Packet) -> HeaderRead
         n_bins,
         range_scale,
     })
+}
+
+// The packet header from byte 18 on: 12, and the counts.
+pub(crate) fn read_packet_header(body: &[u8], packet: Packet) -> HeaderRead
+    requires { ⌜ (18 ≤ length (now body)) × (packet ≡ Packet.Packet28 → ⊥) ⌝ }
+    ensures { λ r. ⌜ headerOf r ≡ outcome (walk (packetHeader packet) (now (body .entry)) 18) ⌝ }
+{
+    let len = body.len();
+    if len < 30 {
+        return HeaderRead::Refused(Level3DecodeError::SymbologyTruncated { len });
+    }
+    read_counts(body, packet, first_bin(packet, body))
 }

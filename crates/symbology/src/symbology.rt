@@ -21,10 +21,10 @@ ghost use lib.Dec.{eqb, ltb};
 ghost use lib.ListN.{length};
 ghost use Rattle.bytes.specs.Refusal.{kind};
 ghost use Rattle.bytes.specs.Result.{accepted, refuse, then};
-ghost use Rattle.bytes.specs.Reading.{run};
-ghost use Rattle.symbology.specs.Symbology.{radialPacket, genericPacket, bodyShort, symbology};
+ghost use Rattle.bytes.specs.Reading.{run, walk, outcome};
+ghost use Rattle.symbology.specs.Symbology.{radialPacket, genericPacket, bodyShort, blockHeader, symbology};
 ghost use Rattle.symbology.specs.Answers.{asked, tooFew, stepOf, roomIn, admit, pictureOf, decodeFor, decodeOf, gapDecodeFor, figuresIn};
-ghost use Rattle.symbology.specs.Answers.{figuresOf, checkOf, Decodes, DecodesWithGaps};
+ghost use Rattle.symbology.specs.Answers.{figuresOf, codeReadOf, checkOf, Decodes, DecodesWithGaps};
 ghost use Rattle.symbology.specs.Walk.{inMode, inPart, Plots, onTerms, planned, DecodesIn};
 
 const RADIAL_PACKET_CODE: u16 = 16;
@@ -117,23 +117,39 @@ fn is_block_header(divider: u16, block: u16) -> bool
     block == 1
 }
 
-// The whole body, checked: 12, 13, 14 and those of the packet.
-fn plan(body: &[u8], gaps: bool) -> BodyPlan
-    ensures { λ r. ⌜ Plots gaps r (now (body .entry)) (run (inMode gaps symbology) (now (body .entry)) 0) ⌝ }
+// The packet's code, which ends the block header.
+pub enum CodeRead {
+    Value(u16),
+    Refused(Level3DecodeError),
+}
+
+// Bytes 0-17: 12, 13.
+pub fn read_code(body: &[u8]) -> CodeRead
+    ensures { λ r. ⌜ codeReadOf r ≡ outcome (walk blockHeader (now (body .entry)) 0) ⌝ }
 {
     let len = body.len();
     if len < 18 {
-        return BodyPlan::Refused(Level3DecodeError::SymbologyTruncated { len });
+        return CodeRead::Refused(Level3DecodeError::SymbologyTruncated { len });
     }
     let divider = bytes::bytes::u16_at(body, 0);
     let block = bytes::bytes::u16_at(body, 2);
     if !is_block_header(divider, block) {
-        return BodyPlan::Refused(Level3DecodeError::BadSymbologyHeader {
+        return CodeRead::Refused(Level3DecodeError::BadSymbologyHeader {
             divider: bytes::bytes::as_i16(divider),
             block_id: bytes::bytes::as_i16(block),
         });
     }
-    let code = bytes::bytes::u16_at(body, 16);
+    CodeRead::Value(bytes::bytes::u16_at(body, 16))
+}
+
+// The whole body, checked: 12, 13, 14 and those of the packet.
+fn plan(body: &[u8], gaps: bool) -> BodyPlan
+    ensures { λ r. ⌜ Plots gaps r (now (body .entry)) (run (inMode gaps symbology) (now (body .entry)) 0) ⌝ }
+{
+    let code = match read_code(body) {
+        CodeRead::Value(code) => code,
+        CodeRead::Refused(error) => return BodyPlan::Refused(error),
+    };
     if code == RADIAL_PACKET_CODE {
         return plan_radial_packet(body, Packet::Packet16, gaps);
     }

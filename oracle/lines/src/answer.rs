@@ -12,10 +12,10 @@ pub struct Refusal {
 }
 
 pub const ITEMS: [&str; 7] = ["int", "uint", "float", "string_body", "padding", "array_body", "packet_body"];
-pub const BUFFERS: [&str; 5] = ["azimuths", "codes", "physical", "marks", "totals"];
+pub const BUFFERS: [&str; 6] = ["azimuths", "codes", "physical", "marks", "totals", "output"];
 
 /// The table's names, from 1.
-pub const NAMES: [&str; 41] = [
+pub const NAMES: [&str; 42] = [
     "NoAwipsToken",
     "NoMessageHeader",
     "PdbFieldOutOfBounds",
@@ -57,6 +57,7 @@ pub const NAMES: [&str; 41] = [
     "StripOutside",
     "TariffMalformed",
     "TotalTooLarge",
+    "RowTooLong",
 ];
 
 #[derive(Debug, Clone, Copy, PartialEq, Eq)]
@@ -180,6 +181,8 @@ pub enum Answer {
         charge: u128,
         remainder: u128,
     },
+    /// The bytes of an export.
+    Written(Vec<u8>),
     /// The number's bytes are not there.
     Nothing,
     /// The Rust overflowed: outside its domain only.
@@ -367,6 +370,7 @@ impl Answer {
                 b == d && a.len() == c.len() && a.iter().zip(c).all(|(x, y)| x.same(y))
             }
             (Charge { charge: a, remainder: b }, Charge { charge: c, remainder: d }) => (a, b) == (c, d),
+            (Written(a), Written(b)) => a == b,
             (Nothing, Nothing) => true,
             _ => false,
         }
@@ -514,6 +518,9 @@ impl Display for Answer {
                 write!(f, " left={left}")
             }
             Answer::Charge { charge, remainder } => write!(f, "A {charge} {remainder}"),
+            Answer::Written(bytes) => {
+                write!(f, "A {} {}", bytes.len(), array(bytes.iter().map(|b| [*b]), bytes.len()))
+            }
             Answer::Nothing => write!(f, "N"),
             Answer::Panic => write!(f, "PANIC"),
             Answer::Absent => write!(f, "? not in the Rust"),

@@ -57,6 +57,11 @@ pub enum Case {
     Sym {
         body: Vec<u8>,
     },
+    /// The export of a body to packet 16, and how many bytes are lent for it.
+    Export {
+        out: usize,
+        body: Vec<u8>,
+    },
     Token {
         file: Vec<u8>,
     },
@@ -240,6 +245,7 @@ impl Case {
             Case::Gaps { .. } => "gaps",
             Case::Plan { .. } => "plan",
             Case::Sym { .. } => "sym",
+            Case::Export { .. } => "export",
             Case::Token { .. } => "token",
             Case::Mhb { .. } => "mhb",
             Case::Time { .. } => "time",
@@ -306,6 +312,7 @@ impl Case {
             "gaps" => sweep(8)?.with_marks(number(word(7)?)?),
             "plan" => sweep(8)?.with_plan(number(word(7)?)?, bytes(10)?),
             "sym" => Case::Sym { body: bytes(2)? },
+            "export" => Case::Export { out: number(word(2)?)?, body: bytes(3)? },
             "token" => Case::Token { file: bytes(2)? },
             "mhb" => Case::Mhb { file: bytes(2)? },
             "time" => Case::Time { clock: number(word(2)?)?, days: number(word(3)?)?, seconds: number(word(4)?)? },
@@ -362,6 +369,7 @@ impl Case {
                 format!("{clock} {} {places} {} {} {}", scheme.text(), hex(file), hex(body), hex(plan))
             }
             Case::Sym { body } => hex(body),
+            Case::Export { out, body } => format!("{out} {}", hex(body)),
             Case::Token { file } | Case::Mhb { file } => hex(file),
             Case::Time { clock, days, seconds } => format!("{clock} {days} {seconds}"),
             Case::Date { days } => days.to_string(),

@@ -8,6 +8,7 @@
 use lines::{Answer, Case, Lent, Packet, Scheme};
 use oracle::make::plans::{self, Record};
 use oracle::make::{body, generic, Rng};
+use oracle::model::export;
 use oracle::port::{Entries, Port, Timed};
 use oracle::program::{self, Arguments};
 use oracle::sample;
@@ -57,6 +58,16 @@ fn main() {
     let job = Job { entries, rounds, name: "16, 720 × 1840", body: &sixteen, lent };
     job.totals("empty", &[]);
     job.totals("4,096 strips of 323 gates, 64 fields", &strips());
+    println!();
+    println!(
+        "| packet | export to packet 16 | symbology, µs | export, µs | export / symbology | copy, µs | export / copy |"
+    );
+    println!("|---|---|---:|---:|---:|---:|---:|");
+    for (name, body) in [("AF1F, 360 × 460, runs to 15", &runs[0]), ("AF1F, 360 × 460, runs to 4", &runs[1])] {
+        let lent = Lent { azimuths: 360, codes: 360 * 460, physical: 0 };
+        let plain = [&body[..18], &[0, 0], &body[20..]].concat();
+        Job { entries, rounds, name, body: &plain, lent }.export(export::length(360, 460));
+    }
     println!();
     println!("medians of {rounds} interleaved runs");
 }
@@ -137,6 +148,22 @@ impl Job<'_> {
         let [sweep, totals] =
             self.medians([Timer::new(|| assert_eq!(one.sweep(), 0)), Timer::new(|| assert_eq!(other.totals(plan), 0))]);
         println!("| {} | {name} | {sweep:.1} | {totals:.1} | {:.2} |", self.name, totals / sweep);
+    }
+
+    /// An export beside symbology, which reads the same body, and a plain copy of what is written; the Rust has none.
+    fn export(&self, length: usize) {
+        let case = Case::Export { out: length, body: self.body.to_vec() };
+        self.alike(&case, wanted::answer(&case));
+        let [mut one, mut other] = [0, 1].map(|_| Timed::new(self.entries, &[], CLOCK, Scheme::Class, self.body, self.lent));
+        let [symbology, export] =
+            self.medians([Timer::new(|| assert_eq!(one.symbology(), 0)), Timer::new(|| assert_eq!(other.export(), 0))]);
+        let (mut to, from) = (vec![7u8; length], vec![9u8; length]);
+        let [copy] = self.medians([Timer::new(|| {
+            to.copy_from_slice(black_box(&from));
+            black_box(&to);
+        })]);
+        let (beside, over) = (export / symbology, export / copy);
+        println!("| {} | {length} bytes | {symbology:.1} | {export:.1} | {beside:.2} | {copy:.1} | {over:.2} |", self.name);
     }
 
     /// What is timed must give the same answer.

@@ -1,6 +1,6 @@
 //! The cases that every run has: short inputs and day numbers exhaustively, every length of small files and bodies, every byte of
-//! them, rows of every length up to 200 cells, radials of every mix of lengths, gaps in all of these, clear scans, the places outside
-//! the Rust's domain, the caps, and the two grid sizes.
+//! them, rows of every length up to 200 cells, radials of every mix of lengths, gaps in all of these, clear scans, exports, the places
+//! outside the Rust's domain, the caps, and the two grid sizes.
 use super::plans::{with_flags, PRECIP};
 use super::Compare;
 use crate::make::body::{self, Body};
@@ -63,6 +63,7 @@ impl Compare {
         self.clear_fixed(seed);
         self.level_counts(seed);
         self.charges_fixed();
+        self.exports_fixed(seed);
         self.tenths();
         self.mixed_radials(seed);
         self.every_centre(seed);
@@ -456,7 +457,9 @@ impl Compare {
             }
         }
         let file = plain_file(rng, Scheme::Class);
-        self.mixed_runs(rng, &file);
+        for bytes in run_mixes(rng) {
+            self.both_readings(&whole(Scheme::Class, &file, bytes).with_marks(3));
+        }
         for packet in Packet::ALL {
             for gap in 0..3 {
                 let (radials, bins) = (rng.between(2, 3), rng.between(1, 6));
@@ -485,28 +488,6 @@ impl Compare {
                 [(2, 1), (6, 4), (6, 16), (2, 64)].map(|(need, unit)| [0, need - 1, need, need + 2][mix / unit % 4]);
             let (lent, clock) = (Lent { azimuths, codes, physical }, 1 << 40);
             self.both_readings(&Case::Gaps { clock, scheme, lent, marks, file: file.to_vec(), body: body.to_vec() });
-        }
-    }
-
-    /// Three AF1F radials of three bins, each of any of eight data: rows, too short, too long, none, and rows with more behind them.
-    fn mixed_runs(&mut self, rng: &mut Rng, file: &[u8]) {
-        let data: [&[u8]; 8] = [
-            &[0x31, 0],
-            &[0x11, 0x22],
-            &[],
-            &[0x21, 0x22],
-            &[0x2f, 0x00],
-            &[0x41, 0x31],
-            &[0, 0x0f, 0x1e, 0x2d],
-            &[0x35, 0xff],
-        ];
-        for mix in 0..8usize.pow(3) {
-            let mut bytes = body::header(rng, Packet::Af1f, 3, 3);
-            for data in [1, 8, 64].map(|unit| data[mix / unit % 8]) {
-                bytes.extend([data.len() as u16 / 2, 10, 10].map(u16::to_be_bytes).concat());
-                bytes.extend(data);
-            }
-            self.both_readings(&whole(Scheme::Class, file, bytes).with_marks(3));
         }
     }
 
@@ -602,6 +583,22 @@ impl Compare {
         let what = format!("packet {} with {radials} x {bins} cells is refused with {refusal}", packet.name());
         self.promise(&what, rust.refusal().is_none() == (radials * bins <= 4_000_000));
     }
+}
+
+/// Three AF1F radials of three bins, each of any of eight data: rows, too short, too long, none, and rows with more behind them.
+pub(super) fn run_mixes(rng: &mut Rng) -> Vec<Vec<u8>> {
+    let data: [&[u8]; 8] =
+        [&[0x31, 0], &[0x11, 0x22], &[], &[0x21, 0x22], &[0x2f, 0x00], &[0x41, 0x31], &[0, 0x0f, 0x1e, 0x2d], &[0x35, 0xff]];
+    let mut mixes = vec![];
+    for mix in 0..8usize.pow(3) {
+        let mut bytes = body::header(rng, Packet::Af1f, 3, 3);
+        for data in [1, 8, 64].map(|unit| data[mix / unit % 8]) {
+            bytes.extend([data.len() as u16 / 2, 10, 10].map(u16::to_be_bytes).concat());
+            bytes.extend(data);
+        }
+        mixes.push(bytes);
+    }
+    mixes
 }
 
 /// A file whose scale fields pass under the scheme.

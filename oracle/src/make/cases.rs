@@ -391,6 +391,47 @@ pub fn charge(rng: &mut Rng) -> Case {
     Case::Charge { total, ends, rates }
 }
 
+/// An export in a buffer that is as long as it must be, or nearly, and a sweep's input with the same body: one of packet AF1F with
+/// first bin 0, good or damaged; some of the time a clear scan, 65,535 bins, another first bin or another packet.
+pub fn export(rng: &mut Rng) -> (Case, Case) {
+    let what = rng.below(16);
+    let packet = if what == 0 { rng.pick(&Packet::ALL) } else { Packet::Af1f };
+    let mut body = match what {
+        1 | 2 => body::clear(rng, packet),
+        3 if rng.one_in(8) => body::of_size(rng, packet, 1, 65_535),
+        _ => body::good(rng, packet),
+    };
+    if !rng.one_in(4) {
+        body.set16(18, 0);
+    }
+    let length = model::export::length(body.radials, body.bins);
+    let out = match rng.below(4) {
+        0 => some(rng, length),
+        more => length + more - 1,
+    };
+    let lent = enough(rng, &body);
+    match what {
+        0 if rng.one_in(2) => body::damage(rng, &mut body),
+        2 => body::damage_clear(rng, &mut body),
+        3 => body.set16(20, 65_535),
+        4..=9 => body::damage(rng, &mut body),
+        10 => {
+            body::damage(rng, &mut body);
+            body::damage_again(rng, &mut body);
+        }
+        _ => {}
+    }
+    let scheme = scheme(rng);
+    let Time { days, seconds, clock } = time(rng);
+    let mut file = file::file(rng, scheme, days, seconds);
+    if rng.one_in(8) {
+        spoil_file(rng, &mut file);
+    }
+    let lent = if rng.one_in(8) && body.radials > 0 { scant(rng, &body) } else { lent };
+    let export = Case::Export { out, body: body.bytes.clone() };
+    (export, Case::Sweep { clock, scheme, lent, file: file.bytes, body: body.bytes })
+}
+
 pub fn symbology(rng: &mut Rng) -> Case {
     let packet = rng.pick(&Packet::ALL);
     let mut body = body::good(rng, packet);

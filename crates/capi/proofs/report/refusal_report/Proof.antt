@@ -308,6 +308,12 @@ enum-told-6 c = search needs
 wholes-requires-37 : tie.Need-wholes-requires-37
 wholes-requires-37 c κs = search needs
 
+enum-told-7 : tie.Need-enum-told-7
+enum-told-7 c = search needs
+
+wholes-requires-38 : tie.Need-wholes-requires-38
+wholes-requires-38 c κs = search needs
+
 returns : tie.Need-returns
 returns c = told (c .wholes .ensures) (c .before .enum-told .given .1)
 
@@ -431,6 +437,9 @@ returns-40 c = told (c .wholes36 .ensures) (c .before .enum-told5 .given .1)
 returns-41 : tie.Need-returns-41
 returns-41 c = told (c .wholes37 .ensures) (c .before .enum-told6 .given .1)
 
+returns-42 : tie.Need-returns-42
+returns-42 c = told (c .wholes38 .ensures) (c .before .enum-told7 .given .1)
+
 pub refusal-report-spec : {M : Type 1} → statement M
 refusal-report-spec =
     tie.close
@@ -536,6 +545,8 @@ refusal-report-spec =
     wholes-requires-36
     enum-told-6
     wholes-requires-37
+    enum-told-7
+    wholes-requires-38
     returns
     returns-2
     returns-3
@@ -576,4 +587,5 @@ refusal-report-spec =
     returns-38
     returns-39
     returns-40
-    returns-41)
+    returns-41
+    returns-42)

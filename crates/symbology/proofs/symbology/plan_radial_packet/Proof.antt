@@ -1,5 +1,6 @@
 use mathlib.Core.Path.{sym, ap, _∙_}
-use Rattle.symbology.specs.Walk.{headerOf, Plots}
+use Rattle.symbology.specs.Answers.{headerOf}
+use Rattle.symbology.specs.Walk.{Plots}
 use Rattle.symbology.proofs.Bodies.{radial-header-refused, radial-small, radial-plots}
 use borrow.Author.Needs.{needs}
 use Rattle.symbology.proofs.symbology.plan_radial_packet.Statement.{statement}

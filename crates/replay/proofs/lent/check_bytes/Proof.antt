@@ -1,23 +1,20 @@
 use borrow.Author.Needs.{needs}
 use Prim.Native.Nat.{_-_}
 use lib.ListN.{length}
-use Rattle.replay.proofs.lent.check_marks.Statement.{statement}
-use Rattle.replay.proofs.lent.check_marks.Tie as tie
+use Rattle.replay.proofs.lent.check_bytes.Statement.{statement}
+use Rattle.replay.proofs.lent.check_bytes.Tie as tie
 
 abbrev Inv-loop : tie.InvT-loop
-Inv-loop marks from i₀ t4 i = Unit {0}
+Inv-loop bytes from name i₀ i = Unit {0}
 
 abbrev μ-loop : tie.MeasureT-loop
-μ-loop marks from i₀ t4 i = length marks - i
+μ-loop bytes from name i₀ i = length bytes - i
 
 loop-holds : tie.Need-loop-holds Inv-loop μ-loop
 loop-holds c = search needs
 
 shared-slice-read-if1 : tie.Need-shared-slice-read-if1 Inv-loop μ-loop
 shared-slice-read-if1 c = search needs
-
-slice-aggregate-say-touched : tie.Need-slice-aggregate-say-touched Inv-loop μ-loop
-slice-aggregate-say-touched c = search needs
 
 say-touched-requires : tie.Need-say-touched-requires Inv-loop μ-loop
 say-touched-requires c κs = search needs
@@ -37,15 +34,14 @@ loop-again c = search needs
 returns-2 : tie.Need-returns-2 Inv-loop μ-loop
 returns-2 c = search needs
 
-pub check-marks-spec : {M : Type 1} → statement M
-check-marks-spec =
+pub check-bytes-spec : {M : Type 1} → statement M
+check-bytes-spec =
     tie.close
     (tie.spec
     Inv-loop
     μ-loop
     loop-holds
     shared-slice-read-if1
-    slice-aggregate-say-touched
     say-touched-requires
     returns
     add-i

@@ -1,0 +1,10 @@
+pub mod Examples
+pub mod Turns
+pub mod Written
+pub mod Original
+pub mod RoundTrip
+pub mod Laying
+pub mod Entry
+pub mod Exactly
+pub mod CodeRuns
+pub mod InWords
