@@ -8,12 +8,12 @@
  * What is returned:
  *   0        accepted (l3_known: 1 for a known code, else 0)
  *   1 to 42  refused; the number is the one of the README's table
- *   100      L3_SHORT_REPORT: ints has fewer than 16 places, or floats fewer than 8
+ *   100      L3_SHORT_REPORT: ints has fewer than L3_INTS places (24), or floats fewer than L3_FLOATS (8)
  *   101      L3_BAD_ARGUMENT: an argument that the function does not take: an unknown scheme, kind or item, an array of a length that is
  *            not the one asked for
  * After 100 and 101 nothing is written. 100 comes first.
  *
- * The report: the first 16 places of ints and the first 8 of floats are written, and later places are left as they are. After a
+ * The report: the first 24 places of ints and the first 8 of floats are written, and later places are left as they are. After a
  * refusal ints has its whole numbers in the table's order and floats its float, from place 0 on. Otherwise they have what stands below.
  * Places of which nothing is said hold 0. A number that takes all 64 bits (the index in refusal 3, the position of l3_xdr) stands in
  * ints as its bits.
@@ -50,16 +50,20 @@ enum {
     L3_FLOOR = 12,        /* its floor */
     L3_CEILING = 13,      /* l3_precip alone: the ceiling, or -1 */
     L3_FIELDS = 14,       /* l3_totals alone: how many fields the plan has */
-    L3_POSITION = 15,     /* l3_xdr alone */
-    L3_INTS = 16
+    L3_POSITION = 15,     /* l3_xdr and l3_items alone */
+    L3_LATITUDE_THOUSANDTHS = 16,   /* latitude and longitude in thousandths of a degree, height in feet and elevation in tenths of a */
+    L3_LONGITUDE_THOUSANDTHS = 17,  /* degree, as they stand in the file: two desks that print these print the same digits */
+    L3_HEIGHT_FEET = 18,
+    L3_ELEVATION_TENTHS = 19,
+    L3_INTS = 24          /* 20 to 23 hold 0 */
 };
 
 /* Places of floats; L3_FLOATS is how many there are. */
 enum {
-    L3_LATITUDE = 0,      /* degrees */
-    L3_LONGITUDE = 1,
-    L3_HEIGHT = 2,        /* m */
-    L3_ELEVATION = 3,     /* degrees */
+    L3_LATITUDE = 0,      /* degrees: ints[L3_LATITUDE_THOUSANDTHS] / 1000.0 */
+    L3_LONGITUDE = 1,     /* ints[L3_LONGITUDE_THOUSANDTHS] / 1000.0 */
+    L3_HEIGHT = 2,        /* m: ints[L3_HEIGHT_FEET] * 0.3048 */
+    L3_ELEVATION = 3,     /* degrees: ints[L3_ELEVATION_TENTHS] / 10.0 */
     L3_GATE_WIDTH = 4,    /* m, of packet 28 */
     L3_FIRST_GATE = 5,
     L3_MINIMUM = 6,       /* of the declared scale */
@@ -103,7 +107,7 @@ enum { L3_KNOWN_CODES = 26 };
  * by row to codes, their physical values to physical. A centre of packet 16 or AF1F is from 0 up to but not including 360; that of packet
  * 28 has the sign of the packet's azimuth plus half its width, and may be a NaN. After a refusal the buffers are as they were, and after
  * a clear scan too: a body of packet 16 or AF1F with no radials is accepted with ints[L3_RADIALS] 0, however short the buffers are.
- * ints[L3_TOKEN] to [L3_FLOOR] and all of floats are as named above. */
+ * ints[L3_TOKEN] to [L3_FLOOR], ints[L3_LATITUDE_THOUSANDTHS] to [L3_ELEVATION_TENTHS] and all of floats are as named above. */
 uint32_t l3_sweep(const uint8_t *file, size_t file_len, uint64_t clock, uint32_t scheme, float parameter,
                   const uint8_t *body, size_t body_len, double *azimuths, size_t azimuths_len,
                   uint16_t *codes, size_t codes_len, float *physical, size_t physical_len,
@@ -167,7 +171,8 @@ uint32_t l3_date(uint16_t days, int64_t *ints, size_t ints_len, double *floats, 
 uint32_t l3_field(const uint8_t *file, size_t file_len, size_t block, size_t index, uint32_t kind,
                   int64_t *ints, size_t ints_len, double *floats, size_t floats_len);
 
-/* The fields of the description block: ints[L3_PRODUCT_CODE] to [L3_SECONDS] and floats[L3_LATITUDE] to [L3_ELEVATION]. */
+/* The fields of the description block: ints[L3_PRODUCT_CODE] to [L3_SECONDS], ints[L3_LATITUDE_THOUSANDTHS] to [L3_ELEVATION_TENTHS] and
+ * floats[L3_LATITUDE] to [L3_ELEVATION]. */
 uint32_t l3_pdb(const uint8_t *file, size_t file_len, size_t block, int64_t *ints, size_t ints_len,
                 double *floats, size_t floats_len);
 

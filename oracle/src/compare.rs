@@ -48,6 +48,8 @@ pub struct Counts {
     pub exports: Split,
     /// Written bodies read again, and sweep readings of them held to the original's.
     pub export_laws: [u64; 2],
+    /// Description records held to the file's bytes.
+    pub records: u64,
 }
 
 pub struct Compare {
@@ -95,7 +97,7 @@ impl Compare {
     }
 
     fn hold(&mut self, case: &Case, want: &Answer, lent: Lent) -> Answer {
-        let Outcome { answer, place, fault } = trap::during(case, || self.port.run(case, lent));
+        let Outcome { answer, place, raw, fault } = trap::during(case, || self.port.run(case, lent));
         let mut why = vec![];
         if !want.same(&answer) {
             why.push("the answers differ".to_string());
@@ -112,12 +114,36 @@ impl Compare {
                 why.push(format!("the token's place is given as {place}"));
             }
         }
+        why.extend(raw.and_then(|raw| self.raw(case, &answer, raw)));
         if !why.is_empty() {
             self.differs(&why.join("; "), case, &[("wanted", want), ("port", &answer)]);
         } else if self.every {
             println!("{}\n  {answer}", case.line("case"));
         }
         answer
+    }
+
+    /// M-110: the whole numbers of a description record are those of the file's bytes, and its floats the stated operations on them.
+    fn raw(&mut self, case: &Case, answer: &Answer, raw: [i64; 4]) -> Option<String> {
+        let (file, block) = match case {
+            Case::Pdb { file, block } => (file, *block),
+            Case::Sweep { file, .. } | Case::Gaps { file, .. } | Case::Plan { file, .. } => {
+                (file, model::header_place(file).map_or(0, |header| header + 18))
+            }
+            _ => return Some("a description record".into()),
+        };
+        let fields = match answer {
+            Answer::Fields(fields) => fields,
+            Answer::Sweep(sweep) | Answer::Gaps(sweep, _) | Answer::Totals(sweep, _) => &sweep.fields,
+            _ => return None,
+        };
+        self.counts.records += 1;
+        let floats = [fields.latitude, fields.longitude, fields.height, fields.elevation];
+        if model::raw_fields(file, block) != Some(raw) {
+            return Some(format!("ints[16] to [19] are {raw:?}"));
+        }
+        let beside = model::floats_of(raw).map(f64::to_bits) == floats.map(f64::to_bits);
+        (!beside).then(|| format!("the floats beside {raw:?} are {floats:?}"))
     }
 
     /// Too little lent to symbology is 36, after everything else that it refuses; nothing is too little for no radials.
@@ -476,6 +502,7 @@ impl Counts {
         println!("  held to another with the same bytes that are read: {}", self.clear_alike);
         let (Split { accepted, refused }, [read, swept]) = (self.exports, self.export_laws);
         println!("exports, accepted / refused: {accepted} / {refused}; read again {read}, in sweep readings {swept}");
+        println!("description records with the whole numbers of the file: {}", self.records);
         let missing = self.missing();
         if !missing.is_empty() {
             println!("did not occur: {}", missing.join(", "));

@@ -162,6 +162,13 @@ slips! {
     ExportRangeScaleLost,
     ExportOneByteMore,
     ExportRefusalWrites,
+    LatitudeTwice,
+    HalfwordsUnsigned,
+    WholeOfTheFloat,
+    HeightInMetres,
+    NoWholesInBlock,
+    NoWholesWithGaps,
+    NextPlaceTaken,
 }
 
 /// 1 + the slip's place in `SLIPS`, or 0.
@@ -247,9 +254,27 @@ impl Report<'_> {
         }
     }
 
-    fn fields(&mut self, f: &Fields) {
+    fn fields(&mut self, f: &Fields, raw: [i64; 4]) {
         self.ints[..6].copy_from_slice(&[0, f.product_code.into(), f.vcp.into(), f.days.into(), f.seconds.into(), 0]);
         self.floats[..4].copy_from_slice(&[f.latitude, f.longitude, f.height, f.elevation]);
+        self.ints[16..INTS].fill(0);
+        let [latitude, longitude, feet, tenths] = raw;
+        self.ints[16..20].copy_from_slice(&raw);
+        if slips(LatitudeTwice) {
+            self.ints[17] = latitude;
+        }
+        if slips(HalfwordsUnsigned) {
+            self.ints[18..20].copy_from_slice(&[feet & 0xffff, tenths & 0xffff]);
+        }
+        if slips(WholeOfTheFloat) {
+            self.ints[16..18].copy_from_slice(&[f.latitude, f.longitude].map(|x| (x * 1000.0) as i64));
+        }
+        if slips(HeightInMetres) {
+            self.ints[18] = f.height.round() as i64;
+        }
+        if slips(NextPlaceTaken) {
+            self.ints[16..21].copy_from_slice(&[0, latitude, longitude, feet, tenths]);
+        }
     }
 
     fn picture(&mut self, p: &Picture) {
@@ -371,7 +396,8 @@ fn reading((file, clock, (scheme, parameter), body, plan): Input, mut places: Pl
     let Some(mut report) = report else { return SHORT_REPORT };
     let Some(scheme) = Scheme::of(scheme as usize, parameter) else { return BAD_ARGUMENT };
     let lent = Lent { azimuths: places.azimuths.len(), codes: places.codes.len(), physical: places.physical.len() };
-    let place = model::token_place(&file);
+    let header = model::header_place(&file).unwrap_or(0);
+    let found = (model::token_place(&file), model::raw_fields(&file, header + 18).unwrap_or_default());
     let case = Case::Sweep { clock: clock.into(), scheme, lent, file, body };
     let given = match (plan, &places.marks, &places.totals) {
         (Some(plan), _, Some(totals)) => plans::read(&case.with_plan(totals.len(), plan)),
@@ -392,11 +418,14 @@ fn reading((file, clock, (scheme, parameter), body, plan): Input, mut places: Pl
             report.refuse(&r)
         }
         Answer::Sweep(s) => {
-            accept(&s, place, &mut places, &mut report);
+            accept(&s, found, &mut places, &mut report);
             0
         }
         Answer::Gaps(s, marks) => {
-            accept(&s, place, &mut places, &mut report);
+            accept(&s, found, &mut places, &mut report);
+            if slips(NoWholesWithGaps) {
+                report.ints[16..20].fill(0);
+            }
             let lent = places.marks.unwrap();
             lent[..marks.len()].copy_from_slice(&marks);
             let one_more = slips(OneMarkMore) || slips(ClearMarkWritten) && marks.is_empty();
@@ -406,7 +435,7 @@ fn reading((file, clock, (scheme, parameter), body, plan): Input, mut places: Pl
             0
         }
         Answer::Totals(s, totals) => {
-            accept(&s, place, &mut places, &mut report);
+            accept(&s, found, &mut places, &mut report);
             report.ints[14] = totals.len() as i64;
             let lent = places.totals.unwrap();
             lent[..totals.len()].copy_from_slice(&totals);
@@ -419,8 +448,9 @@ fn reading((file, clock, (scheme, parameter), body, plan): Input, mut places: Pl
     }
 }
 
-fn accept(s: &Sweep, place: Option<usize>, places: &mut Places, report: &mut Report) {
-    report.fields(&s.fields);
+/// With the place of the token and the whole numbers of the description record.
+fn accept(s: &Sweep, (place, raw): (Option<usize>, [i64; 4]), places: &mut Places, report: &mut Report) {
+    report.fields(&s.fields, raw);
     report.picture(&s.picture);
     report.ints[0] = place.map_or(-1, |p| p as i64);
     report.ints[5] = s.time;
@@ -602,9 +632,11 @@ unsafe extern "C" fn pdb(
     floats: *mut f64,
     floats_len: usize,
 ) -> u32 {
-    reported(Case::Pdb { file: bytes(f, n), block }, (ints, ints_len), (floats, floats_len), |r, given| {
+    let file = bytes(f, n);
+    let raw = model::raw_fields(&file, block).unwrap_or_default();
+    reported(Case::Pdb { file, block }, (ints, ints_len), (floats, floats_len), |r, given| {
         if let Answer::Fields(fields) = given {
-            r.fields(&fields);
+            r.fields(&fields, if slips(NoWholesInBlock) { [0; 4] } else { raw });
         }
     })
 }

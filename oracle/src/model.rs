@@ -1,8 +1,8 @@
 //! Document 01's sentences once more, worked out here without the Rust and without the port: where the token, the message
 //! header and the fields stand, what a code's physical value is, where a body's radials stand, which of its bytes are data or
 //! unread, and what row a radial's data make or that they make none; and of document 02 the centres, the gaps, the dates,
-//! the count of levels, the charges, the clear scans and, in plans.rs, the field plans; in tenths.rs how close the tenths are, and in
-//! export.rs what is exported.
+//! the count of levels, the charges, the clear scans, the whole numbers of the description record and, in plans.rs, the field
+//! plans; in tenths.rs how close the tenths are, and in export.rs what is exported.
 use lines::{Answer, Date, Packet, Picture, Refusal, Scheme, Sweep};
 use std::ops::Range;
 
@@ -45,6 +45,24 @@ pub fn field_place(len: usize, block: usize, index: usize, width: usize) -> Opti
     } else {
         None
     }
+}
+
+/// M-110: latitude and longitude in thousandths, height in feet, elevation in tenths, as they stand in the block.
+pub fn raw_fields(file: &[u8], block: usize) -> Option<[i64; 4]> {
+    let long = |index| {
+        let at = field_place(file.len(), block, index, 4)?;
+        Some(i32::from_be_bytes(file[at..at + 4].try_into().unwrap()) as i64)
+    };
+    let short = |index| {
+        let at = field_place(file.len(), block, index, 2)?;
+        Some(i16::from_be_bytes([file[at], file[at + 1]]) as i64)
+    };
+    Some([long(2)?, long(4)?, short(6)?, short(21)?])
+}
+
+/// The floats beside them: latitude, longitude, height, elevation.
+pub fn floats_of([latitude, longitude, feet, tenths]: [i64; 4]) -> [f64; 4] {
+    [latitude as f64 / 1000.0, longitude as f64 / 1000.0, feet as f64 * 0.3048, tenths as f64 / 10.0]
 }
 
 /// The physical value of a code, from the scheme and the file's scale fields, each operation rounded once.

@@ -2,7 +2,7 @@
 //! (and, turned round, in mirror.rs).
 //!
 //! A slice passes as a pointer and a length in elements. Every entry returns the refusal's number, 0 when it accepts.
-//! `ints` has at least 16 places and `floats` at least 8, else the answer is 100 and nothing is written. On a refusal they
+//! `ints` has at least 24 places and `floats` at least 8, else the answer is 100 and nothing is written. On a refusal they
 //! hold its whole numbers and its float, widened; on acceptance:
 //!
 //! | entry | ints | floats |
@@ -11,7 +11,7 @@
 //! | l3_scan_time | 0 time | |
 //! | l3_date | 0 year, 1 month, 2 day | |
 //! | l3_field | 0 value | 0, 1 the pair |
-//! | l3_pdb, l3_sweep, l3_gaps, l3_totals | 0 token's place (0 in l3_pdb), 1 product code, 2 vcp, 3 days, 4 seconds, 5 time (0 in l3_pdb) | 0-3 latitude, longitude, height, elevation |
+//! | l3_pdb, l3_sweep, l3_gaps, l3_totals | 0 token's place (0 in l3_pdb), 1 product code, 2 vcp, 3 days, 4 seconds, 5 time (0 in l3_pdb); 16, 17 latitude and longitude in thousandths, 18 height in feet, 19 elevation in tenths; 20-23 0 | 0-3 latitude, longitude, height, elevation |
 //! | l3_symbology, l3_sweep, l3_gaps, l3_totals | 6 packet (16, 44831 for AF1F, 28), 7 radials, 8 bins, 9 range scale or 0 | 4, 5 gate width, first gate or 0 |
 //! | l3_sweep, l3_gaps, l3_totals | 10 whether a scale is declared, 11 level count, 12 floor | 6, 7 minimum, step |
 //! | l3_totals | 14 the number of fields | |
@@ -134,7 +134,7 @@ entries! {
     );
 }
 
-pub const INTS: usize = 16;
+pub const INTS: usize = 24;
 pub const FLOATS: usize = 8;
 /// The answer when `ints` or `floats` is too short.
 pub const SHORT_REPORT: u32 = 100;
@@ -213,6 +213,8 @@ pub struct Outcome {
     pub answer: Answer,
     /// The place of the token, where the entry gives one.
     pub place: Option<usize>,
+    /// The whole numbers of a description record, where the entry gives one: `model::raw_fields`.
+    pub raw: Option<[i64; 4]>,
     /// A promise that the call broke beside its answer, such as a kept place that was written.
     pub fault: Option<String>,
 }
@@ -232,6 +234,7 @@ pub struct Port {
     floats: [f64; FLOATS + GUARD],
     fault: Option<String>,
     place: Option<usize>,
+    raw: Option<[i64; 4]>,
 }
 
 impl Port {
@@ -251,12 +254,13 @@ impl Port {
             floats: [0.0; FLOATS + GUARD],
             fault: None,
             place: None,
+            raw: None,
         }
     }
 
     /// The port's answer to a case. `lent` is what `sym` lends; a sweep's case says itself what it lends.
     pub fn run(&mut self, case: &Case, lent: Lent) -> Outcome {
-        (self.fault, self.place) = (None, None);
+        (self.fault, self.place, self.raw) = (None, None, None);
         let answer = match case {
             Case::Sweep { clock, scheme, lent, file, body } => {
                 self.sweep(*clock, *scheme, (*lent, Beside::Nothing), file, body)
@@ -315,7 +319,7 @@ impl Port {
             Case::Read { bytes, offset, kind } => self.read(bytes, *offset, *kind),
             Case::Charge { total, ends, rates } => self.charge(*total, ends, rates),
         };
-        Outcome { answer, place: self.place.take(), fault: self.fault.take() }
+        Outcome { answer, place: self.place.take(), raw: self.raw.take(), fault: self.fault.take() }
     }
 
     /// One item read at a position: the item or the refusal, and the position after it.
@@ -407,7 +411,7 @@ impl Port {
         let bytes = self.file.place(b"N0BLOT");
         let (ints, floats) = (self.ints.as_mut_ptr(), self.floats.as_mut_ptr());
         let number = unsafe { (self.entries.token)(bytes, 6, ints, INTS + 4, floats, FLOATS + 4) };
-        asked.push(("l3_token with more than 16 ints and 8 floats".into(), number == 0 && self.ints[0] == 0));
+        asked.push((format!("l3_token with more than {INTS} ints and {FLOATS} floats"), number == 0 && self.ints[0] == 0));
         for scheme in [5, 6, 255, u32::MAX] {
             self.lend(Lent { azimuths: 4, codes: 4, physical: 4 });
             for (name, beside) in SWEEPS {
@@ -960,6 +964,8 @@ impl Port {
     }
 
     fn fields(&mut self) -> Fields {
+        self.raw = Some(self.ints[16..20].try_into().unwrap());
+        self.zero_ints(&[20, 21, 22, 23]);
         Fields {
             latitude: self.floats[0],
             longitude: self.floats[1],

@@ -2,3 +2,4 @@ pub mod Copied
 pub mod Words
 pub mod Reports
 pub mod Answers
+pub mod Coherence

@@ -11,7 +11,7 @@ use borrow.Author.Tests.{ltb-false}
 use Rattle.bytes.specs.declared.error.Level3DecodeError.{Level3DecodeError}
 use Rattle.bytes.specs.Refusal.{refusalOf}
 use Rattle.capi.specs.declared.report.Report.{Report}
-use Rattle.capi.specs.Report.{refusalReport, Said, said, short, over, Leaves}
+use Rattle.capi.specs.Report.{wholePlaces, floatPlaces, refusalReport, Said, said, short, over, Leaves}
 
 -- the report of an error that was told apart
 pub told : {r : Report} {e e' : Level3DecodeError} → r ≡ refusalReport (refusalOf e) → e' ≡ e → r ≡ refusalReport (refusalOf e')
@@ -26,16 +26,16 @@ module _ (s : Said Report) {ints : List ℕ} {floats : List Float} where
 
 -- enough room
 pub record Room (ints floats : ℕ) : Type 0 where
-  pub ints-fit : 16 ≤ ints
-  pub floats-fit : 8 ≤ floats
+  pub ints-fit : wholePlaces ≤ ints
+  pub floats-fit : floatPlaces ≤ floats
 
 pub room : (a b : ℕ) → short a b ≡ false → Room a b
-room a b t = both (ltb a 16) (ltb b 8) refl refl t
+room a b t = both (ltb a wholePlaces) (ltb b floatPlaces) refl refl t
   where
-    both : (p q : Bool) → ltb a 16 ≡ p → ltb b 8 ≡ q → (p || q) ≡ false → Room a b
+    both : (p q : Bool) → ltb a wholePlaces ≡ p → ltb b floatPlaces ≡ q → (p || q) ≡ false → Room a b
     both true q e f t = let z : _≡_ {A = ℕ} 0 1 = cc t in absurd (omega arith)
     both false true e f t = let z : _≡_ {A = ℕ} 0 1 = cc t in absurd (omega arith)
-    both false false e f t = record { ints-fit = ltb-false a 16 e; floats-fit = ltb-false b 8 f }
+    both false false e f t = record { ints-fit = ltb-false a wholePlaces e; floats-fit = ltb-false b floatPlaces f }
 
 -- a report is written where there is room
 pub all-left : (r : Report) {ints ints' : List ℕ} {floats floats' : List Float} → short (length ints) (length floats) ≡ false

@@ -1,8 +1,10 @@
 -- What stands where in the report of an accepted value.
 use Prim.Native.Nat.{ℕ}
-use mathlib.Core.List.{[], _∷_}
+use mathlib.Core.List.{List, [], _∷_}
+use mathlib.Core.Path.{_≡_}
 use lib.IntN.{ℤ, negsuc}
-use lib.Ieee.{Float}
+use lib.Ieee.{Float, nan}
+use lib.ListN.{getD}
 use Rattle.bytes.specs.Float.{f64}
 use Rattle.bytes.specs.declared.bytes.U16Read.{U16Read}
 use Rattle.bytes.specs.declared.bytes.U16Read.the-variants as U16
@@ -12,6 +14,7 @@ use Rattle.bytes.specs.declared.bytes.I32Read.{I32Read}
 use Rattle.bytes.specs.declared.bytes.I32Read.the-variants as I32
 use Rattle.calendar.specs.declared.date.Date.{Date}
 use Rattle.tariff.specs.declared.charge.Charge.{Charge}
+use Rattle.head.specs.Pdb.{thousandths, tenths, metres}
 use Rattle.head.specs.declared.pdb.F32Pair.{F32Pair}
 use Rattle.head.specs.declared.pdb.PdbFields.{PdbFields}
 use Rattle.scale.specs.declared.scaling.LinearScale.{LinearScale}
@@ -76,13 +79,14 @@ chargeReport c = report 0 (c .charge ∷ c .remainder ∷ []) []
 -- ---- file, picture and scale
 
 -- Whole numbers from place 0: token's place, product code, vcp, days, seconds, time; 6 packet, radials, bins, range scale; 10 whether a
--- scale is declared, level count, floor, ceiling. Floats from place 0: latitude, longitude, height, elevation; 4 gate width, first gate; 6
--- minimum, step.
+-- scale is declared, level count, floor, ceiling; 14 a plan's fields and 15 a position, which are set where there are any; 16 latitude and
+-- longitude in thousandths of a degree, height in feet, elevation in tenths of a degree. Floats from place 0: latitude, longitude, height,
+-- elevation; 4 gate width, first gate; 6 minimum, step.
 abbrev pub placed : HeadPlaces → PicturePlaces → ScalePlaces → Report
 placed h p s =
     report 0
     (h .token ∷ h .code ∷ h .vcp ∷ h .days ∷ h .seconds ∷ h .time ∷ p .packet ∷ p .radials ∷ p .bins ∷ p .range ∷ s .declared
-    ∷ s .levels ∷ s .floor ∷ s .ceiling ∷ [])
+    ∷ s .levels ∷ s .floor ∷ s .ceiling ∷ 0 ∷ 0 ∷ h .«lat_thousandths» ∷ h .«lon_thousandths» ∷ h .feet ∷ h .tenths ∷ [])
     (h .latitude ∷ h .longitude ∷ h .height ∷ h .elevation ∷ p .width ∷ p .first ∷ s .minimum ∷ s .step ∷ [])
 
 abbrev pub noHead : HeadPlaces
@@ -94,6 +98,10 @@ noHead =
       days = 0;
       seconds = 0;
       time = 0;
+      «lat_thousandths» = 0;
+      «lon_thousandths» = 0;
+      feet = 0;
+      tenths = 0;
       latitude = f64 0 1;
       longitude = f64 0 1;
       height = f64 0 1;
@@ -116,6 +124,10 @@ headPlaces token f time =
       days = f .«scan_days»;
       seconds = word (f .«scan_seconds»);
       time = time;
+      «lat_thousandths» = word (f .«lat_thousandths»);
+      «lon_thousandths» = word (f .«lon_thousandths»);
+      feet = word (f .«height_feet»);
+      tenths = word (f .«elevation_tenths»);
       latitude = f .lat;
       longitude = f .lon;
       height = f .«height_m»;
@@ -201,3 +213,16 @@ sweepReport s = placed (headPlaces (s .token) (s .fields) (s .time)) (picturePla
 -- the same, and in place 14 the number of fields
 abbrev pub totalsReport : SweepTotals → Report
 totalsReport t = withPlace (sweepReport (t .sweep)) 14 (t .fields)
+
+-- ---- the description record in a report
+
+-- The whole numbers of the record f in their places, and beside each the float that is the stated operation on it (document 02, M-110).
+pub record Beside (f : PdbFields) (ints : List ℕ) (floats : List Float) : Type 0 where
+  pub lat-whole : getD ints 16 0 ≡ word (f .«lat_thousandths»)
+  pub lon-whole : getD ints 17 0 ≡ word (f .«lon_thousandths»)
+  pub feet-whole : getD ints 18 0 ≡ word (f .«height_feet»)
+  pub tenths-whole : getD ints 19 0 ≡ word (f .«elevation_tenths»)
+  pub latitude : getD floats 0 nan ≡ thousandths (f .«lat_thousandths»)
+  pub longitude : getD floats 1 nan ≡ thousandths (f .«lon_thousandths»)
+  pub height : getD floats 2 nan ≡ metres (f .«height_feet»)
+  pub elevation : getD floats 3 nan ≡ tenths (f .«elevation_tenths»)

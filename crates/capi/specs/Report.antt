@@ -19,6 +19,13 @@ use Rattle.capi.specs.declared.report.Report.{Report}
 
 -- ---- a report
 
+-- its places for whole numbers, and for floats
+abbrev pub wholePlaces : ℕ
+wholePlaces = 24
+
+abbrev pub floatPlaces : ℕ
+floatPlaces = 8
+
 -- a whole number as a 64-bit word, two's complement
 abbrev pub word : ℤ → ℕ
 word (pos n) = n
@@ -28,9 +35,9 @@ word (negsuc n) = 18446744073709551615 - n
 abbrev pub padded : {A : Type 0} → ℕ → A → List A → List A
 padded n d xs = xs ++ replicate (n - length xs) d
 
--- a number, whole numbers and floats; the other places of the sixteen and the eight are 0
+-- a number, whole numbers and floats; the other places are 0
 abbrev pub report : ℕ → List ℕ → List Float → Report
-report n ints floats = record { number = n; ints = padded 16 0 ints; floats = padded 8 (f64 0 1) floats }
+report n ints floats = record { number = n; ints = padded wholePlaces 0 ints; floats = padded floatPlaces (f64 0 1) floats }
 
 abbrev pub itemNumber : XdrItem → ℕ
 itemNumber Item.Int = 0
@@ -77,7 +84,7 @@ reportOf (refused x) f = refusalReport x
 abbrev pub withPlace : Report → ℕ → ℕ → Report
 withPlace r place n = record { number = r .number; ints = set (r .ints) place n; floats = r .floats }
 
--- with a position in the last
+-- with a position in its place
 abbrev pub withPosition : Report → ℕ → Report
 withPosition r at = withPlace r 15 at
 
@@ -105,9 +112,9 @@ choice n [] = failed 101
 choice zero (a ∷ rest) = said a
 choice (suc n) (a ∷ rest) = choice n rest
 
--- whether the report has fewer than 16 places for whole numbers or fewer than 8 for floats
+-- whether the report has too few places for whole numbers or for floats
 abbrev pub short : ℕ → ℕ → Bool
-short ints floats = ltb ints 16 || ltb floats 8
+short ints floats = ltb ints wholePlaces || ltb floats floatPlaces
 
 -- 100 comes first
 abbrev pub roomFirst : {A : Type 0} → List ℕ → List Float → Said A → Said A

@@ -1,4 +1,5 @@
 // Fields of the product description block.
+use crate::report::INTS;
 use crate::report::Report;
 use crate::report::bad_argument;
 use crate::report::refusal_report;
@@ -53,7 +54,7 @@ fn of_pair(p: F32Pair) -> Report
     let offset = std::num::f32_to_f64_with_nan(p.offset);
     Report {
         number: 0,
-        ints: [0, 0, 0, 0, 0, 0, 0, 0, 0, 0, 0, 0, 0, 0, 0, 0],
+        ints: [0u64; INTS],
         floats: [scale, offset, 0.0, 0.0, 0.0, 0.0, 0.0, 0.0],
     }
 }

@@ -1,4 +1,4 @@
-// What an entry reports: a number, sixteen whole numbers and eight floats.
+// What an entry reports: a number, 24 whole numbers and eight floats.
 use bytes::error::Buffer;
 use bytes::error::Level3DecodeError;
 use bytes::error::XdrItem;
@@ -7,13 +7,18 @@ ghost use mathlib.Core.List.{[], _∷_};
 ghost use mathlib.Core.Bool.{cond};
 ghost use Prim.Native.Nat.{_<_};
 ghost use Rattle.bytes.specs.Refusal.{refusalOf};
-ghost use Rattle.capi.specs.Report.{word, itemNumber, bufferNumber, report, refusalReport, withPlace, withPosition, said, short, Leaves};
+ghost use Rattle.capi.specs.Report.{wholePlaces, word, itemNumber, bufferNumber, report, refusalReport, withPlace, withPosition, said, short, Leaves};
+
+// The places of a report: for whole numbers and for floats.
+pub(crate) const INTS: usize = 24;
+
+const FLOATS: usize = 8;
 
 // 0 and an accepted value's places, or a refusal's number and its values. Other places hold 0.
 pub struct Report {
     pub number: u32,
-    pub ints: [u64; 16],
-    pub floats: [f64; 8],
+    pub ints: [u64; INTS],
+    pub floats: [f64; FLOATS],
 }
 
 // A whole number as a 64-bit word, two's complement.
@@ -64,10 +69,15 @@ fn buffer_number(buffer: Buffer) -> u64
 pub(crate) fn wholes(number: u32, a: u64, b: u64, c: u64, d: u64) -> Report
     ensures { λ r. ⌜ r ≡ report number (a ∷ b ∷ c ∷ d ∷ []) [] ⌝ }
 {
+    let mut ints = [0u64; INTS];
+    ints[0] = a;
+    ints[1] = b;
+    ints[2] = c;
+    ints[3] = d;
     Report {
         number,
-        ints: [a, b, c, d, 0, 0, 0, 0, 0, 0, 0, 0, 0, 0, 0, 0],
-        floats: [0.0, 0.0, 0.0, 0.0, 0.0, 0.0, 0.0, 0.0],
+        ints,
+        floats: [0.0f64; FLOATS],
     }
 }
 
@@ -75,11 +85,14 @@ pub(crate) fn wholes(number: u32, a: u64, b: u64, c: u64, d: u64) -> Report
 pub(crate) fn with_float(number: u32, a: u64, x: f32) -> Report
     ensures { λ r. ⌜ r ≡ report number (a ∷ []) (x ∷ []) ⌝ }
 {
-    let wide = std::num::f32_to_f64_with_nan(x);
+    let mut ints = [0u64; INTS];
+    ints[0] = a;
+    let mut floats = [0.0f64; FLOATS];
+    floats[0] = std::num::f32_to_f64_with_nan(x);
     Report {
         number,
-        ints: [a, 0, 0, 0, 0, 0, 0, 0, 0, 0, 0, 0, 0, 0, 0, 0],
-        floats: [wide, 0.0, 0.0, 0.0, 0.0, 0.0, 0.0, 0.0],
+        ints,
+        floats,
     }
 }
 
@@ -255,7 +268,7 @@ pub(crate) fn refusal_report(error: Level3DecodeError) -> Report
 
 // The same with a number in one of the places for whole numbers.
 pub(crate) fn with_place(report: Report, place: usize, n: usize) -> Report
-    requires { ⌜ place < 16 ⌝ }
+    requires { ⌜ place < wholePlaces ⌝ }
     ensures { λ r. ⌜ r ≡ withPlace report place n ⌝ }
 {
     let mut ints = report.ints;
@@ -268,7 +281,7 @@ pub(crate) fn with_place(report: Report, place: usize, n: usize) -> Report
     }
 }
 
-// The same with a position in the last place.
+// The same with a position in its place.
 pub(crate) fn with_position(report: Report, at: usize) -> Report
     ensures { λ r. ⌜ r ≡ withPosition report at ⌝ }
 {
@@ -279,10 +292,10 @@ pub(crate) fn with_position(report: Report, at: usize) -> Report
 pub(crate) fn is_short(ints: usize, floats: usize) -> bool
     ensures { λ r. ⌜ r ≡ short ints floats ⌝ }
 {
-    if ints < 16 {
+    if ints < INTS {
         return true;
     }
-    floats < 8
+    floats < FLOATS
 }
 
 // What an entry returns for an argument that it does not take.

@@ -17,3 +17,4 @@ pub mod Promises
 pub mod Order
 pub mod CodeRuns
 pub mod Clear
+pub mod Coherence

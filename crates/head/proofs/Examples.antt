@@ -134,6 +134,10 @@ pub fields : pdbFields block 2
       «scan_days» = 20000;
       «scan_seconds» = pos 43200;
       «elevation_deg» = ofBits binary64 0x4003_3333_3333_3333;
+      «lat_thousandths» = pos 30679;
+      «lon_thousandths» = negsuc 88233;
+      «height_feet» = pos 187;
+      «elevation_tenths» = pos 24;
     })
 unfolding pdbFields hwI32 hwI16 hwU16 fieldAt i32At i16At u32At u16At signed f64 ofInt ofBits mul div
 fields = refl

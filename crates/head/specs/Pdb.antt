@@ -1,8 +1,10 @@
 -- pdb.rs: "Field i stands at block start + 2 × (i - 1): 2 latitude and 4 longitude (i32, thousandths), 6 height (i16 feet × 0.3048),
 -- 7 product code, 9 vcp, 12 days, 13 seconds (i32), 21 elevation (tenths, f64)". "Field 0 or a place past the end is 3", with the index.
+-- Latitude, longitude, height and elevation are given as whole numbers too (document 02, M-110).
 use Prim.Native.Nat.{ℕ, _+_, _*_, _-_}
 use mathlib.Core.List.{List, [], _∷_}
 use mathlib.Core.Bool.{_||_}
+use mathlib.Core.Path.{_≡_}
 use lib.ListN.{length}
 use lib.Dec.{eqb, ltb}
 use lib.IntN.{ℤ}
@@ -60,4 +62,15 @@ pdbFields file block =
       «scan_days» = days;
       «scan_seconds» = seconds;
       «elevation_deg» = tenths elevation;
+      «lat_thousandths» = lat;
+      «lon_thousandths» = lon;
+      «height_feet» = feet;
+      «elevation_tenths» = elevation;
     })
+
+-- Each float of a description record is the stated operation on the whole number beside it, in f64 (document 02, M-110).
+pub record Coherent (f : PdbFields) : Type 0 where
+  pub latitude : f .lat ≡ thousandths (f .«lat_thousandths»)
+  pub longitude : f .lon ≡ thousandths (f .«lon_thousandths»)
+  pub height : f .«height_m» ≡ metres (f .«height_feet»)
+  pub elevation : f .«elevation_deg» ≡ tenths (f .«elevation_tenths»)

@@ -30,6 +30,7 @@ pub enum PairField {
     Refused(Level3DecodeError),
 }
 
+// Latitude, longitude, height and elevation stand as floats, and at the end as the whole numbers read from the wire.
 pub struct PdbFields {
     pub lat: f64,
     pub lon: f64,
@@ -39,6 +40,10 @@ pub struct PdbFields {
     pub scan_days: u16,
     pub scan_seconds: i32,
     pub elevation_deg: f64,
+    pub lat_thousandths: i32,
+    pub lon_thousandths: i32,
+    pub height_feet: i16,
+    pub elevation_tenths: i16,
 }
 
 pub enum FieldsRead {
@@ -177,5 +182,9 @@ pub fn read_pdb_fields(file: &[u8], block: usize) -> FieldsRead
         scan_days: days,
         scan_seconds: seconds,
         elevation_deg,
+        lat_thousandths: lat,
+        lon_thousandths: lon,
+        height_feet: feet,
+        elevation_tenths: elevation,
     })
 }

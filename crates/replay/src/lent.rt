@@ -47,10 +47,10 @@ pub fn totals() -> [u64; 4096]
 }
 
 // The report, with places behind it that must be kept.
-pub fn ints() -> [u64; 24]
-    ensures { λ r. ⌜ r ≡ replicate 24 11936128518282651045 ⌝ }
+pub fn ints() -> [u64; 32]
+    ensures { λ r. ⌜ r ≡ replicate 32 11936128518282651045 ⌝ }
 {
-    [0xa5a5_a5a5_a5a5_a5a5u64; 24]
+    [0xa5a5_a5a5_a5a5_a5a5u64; 32]
 }
 
 pub fn floats() -> [f64; 16]
@@ -156,6 +156,6 @@ fn check_floats(floats: &[f64]) {
 }
 
 pub fn check_report(ints: &[u64], floats: &[f64]) {
-    check_words(ints, 16, b"ints");
+    check_words(ints, 24, b"ints");
     check_floats(floats);
 }

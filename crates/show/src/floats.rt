@@ -85,7 +85,7 @@ fn print_small(negative: bool, rest: u64)
 }
 
 // Spaces up to the width, the sign, and the digits around the point: `unit` parts make a whole.
-fn print_units(negative: bool, n: u64, unit: u64, width: usize)
+pub(crate) fn print_units(negative: bool, n: u64, unit: u64, width: usize)
     requires { ⌜ (0 < unit) × (unit ≤ 1000000) ⌝ }
 {
     let mut whole = [0u8; 20];

@@ -9,7 +9,7 @@ use symbology::figures::Figures;
 use symbology::figures::Geometry;
 use symbology::figures::Packet;
 ghost use mathlib.Core.Path.{_≡_};
-ghost use Prim.Native.Nat.{_≤_, min};
+ghost use Prim.Native.Nat.{_<_, _≤_, min};
 ghost use lib.Dec.{eqb};
 ghost use Rattle.show.specs.Gaps.{oneIf, marked as markedIn, gapAt};
 
@@ -31,10 +31,23 @@ fn signed_line(name: &[u8], z: i32) {
     crate::text::say(b"\n");
 }
 
-fn double_line(name: &[u8], x: f64, unit: &[u8]) {
+// Degrees from a whole number of parts, `unit` to a degree: exact, so that no float's digits are printed.
+fn degrees_line(name: &[u8], z: i32, unit: u64)
+    requires { ⌜ (0 < unit) × (unit ≤ 1000000) ⌝ }
+{
     label(name);
-    crate::floats::double(x, 16);
-    crate::text::say(unit);
+    crate::floats::print_units(z < 0, crate::text::distance(z) as u64, unit, 16);
+    crate::text::say(b" degrees\n");
+}
+
+// Metres from whole feet, exact too: a foot is 3,048 ten-thousandths.
+fn height_line(feet: i32) {
+    label(b"height");
+    let n = crate::text::distance(feet) as u64 * 3048;
+    crate::floats::print_units(feet < 0, n, 10000, 16);
+    crate::text::say(b" m, ");
+    crate::text::signed(feet);
+    crate::text::say(b" feet\n");
 }
 
 fn fine_line(name: &[u8], x: f32, unit: &[u8]) {
@@ -84,12 +97,16 @@ fn time_line(seconds: i32) {
 }
 
 fn print_fields(f: PdbFields, time: u64) {
-    double_line(b"latitude", f.lat, b" degrees\n");
-    double_line(b"longitude", f.lon, b" degrees\n");
-    double_line(b"height", f.height_m, b" m\n");
+    degrees_line(b"latitude", f.lat_thousandths, 1000);
+    degrees_line(b"longitude", f.lon_thousandths, 1000);
+    height_line(crate::text::wide_signed(f.height_feet));
     signed_line(b"product code", crate::text::wide_signed(f.product_code));
     whole_line(b"vcp", f.vcp as usize);
-    double_line(b"elevation", f.elevation_deg, b" degrees\n");
+    degrees_line(
+        b"elevation",
+        crate::text::wide_signed(f.elevation_tenths),
+        10,
+    );
     whole_line(b"scan days", f.scan_days as usize);
     signed_line(b"scan seconds", f.scan_seconds);
     label(b"scan time");

@@ -1,6 +1,7 @@
 // Text and whole numbers on standard output, and lines on standard error.
 ghost use mathlib.Core.Path.{_≡_};
-ghost use Prim.Native.Nat.{_-_};
+ghost use Prim.Native.Nat.{_-_, _≤_};
+ghost use lib.IntN.{natAbs};
 
 pub fn say(s: &[u8]) {
     io::write_all(1, s);
@@ -59,7 +60,9 @@ pub fn wide_signed(x: i16) -> i32
 }
 
 // The distance from 0: !z is -1 - z.
-fn distance(z: i32) -> usize {
+pub fn distance(z: i32) -> usize
+    ensures { λ r. ⌜ (r ≡ natAbs z) × (r ≤ 2147483648) ⌝ }
+{
     if z < 0 {
         return xdr::xdr::at_least_0(!z) + 1;
     }

@@ -23,4 +23,5 @@ pub mod GapDamage
 pub mod TwoGapRuns
 pub mod GapCalls
 pub mod Clear
+pub mod Coherence
 pub mod GapOrder

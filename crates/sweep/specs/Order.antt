@@ -52,6 +52,10 @@ plainSweep f =
         «scan_days» = 1;
         «scan_seconds» = pos 0;
         «elevation_deg» = f64 0 1;
+        «lat_thousandths» = pos 0;
+        «lon_thousandths» = pos 0;
+        «height_feet» = pos 0;
+        «elevation_tenths» = pos 0;
       };
       time = 0;
       declared = Declared.Absent;

@@ -28,7 +28,7 @@ pub enum SweepAnswer {
 }
 
 // What acceptance gives of a head and a picture's figures.
-pub fn answer_of(head: Head, figures: Figures) -> SweepAnswer
+pub(crate) fn answer_of(head: Head, figures: Figures) -> SweepAnswer
     ensures { λ r. ⌜ answerOf r ≡ sweepWith head (declaredScale (head .scaling)) figures ⌝ }
 {
     let fields = head.fields;

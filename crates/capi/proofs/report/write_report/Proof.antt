@@ -1,6 +1,7 @@
 use lib.ListN.{length}
 use mathlib.Core.Path.{_≡_, sym, _∙_}
 use native.Mathlib.Omega.{arith}
+use Rattle.capi.specs.Report.{wholePlaces, floatPlaces}
 use Rattle.capi.proofs.Reports.{none-left, room, all-left}
 use borrow.Author.Needs.{needs}
 use Rattle.capi.proofs.report.write_report.Statement.{statement}
@@ -18,7 +19,7 @@ slice-aggregate-copy-u64 c = search needs
 copy-u64-requires : tie.Need-copy-u64-requires
 copy-u64-requires c κs =
     let k = room (length (c .before .before .before .before .before .before .before .before .args .ints .now)) (length (c .before .before .before .before .before .before .before .before .args .floats .now)) (sym (c .before .before .before .before .before .is-short .ensures) ∙ c .before .before .before .before .if1 .left) in
-    let l : length (c .before .before .before .before .before .before .before .before .args .report .ints) ≡ 16 = search needs in
+    let l : length (c .before .before .before .before .before .before .before .before .args .report .ints) ≡ wholePlaces = search needs in
     omega arith
 
 slice-aggregate-copy-f64 : tie.Need-slice-aggregate-copy-f64
@@ -27,7 +28,7 @@ slice-aggregate-copy-f64 c = search needs
 copy-f64-requires : tie.Need-copy-f64-requires
 copy-f64-requires c κs =
     let k = room (length (c .before .before .before .before .before .before .before .before .before .before .before .before .before .args .ints .now)) (length (c .before .before .before .before .before .before .before .before .before .before .before .before .before .args .floats .now)) (sym (c .before .before .before .before .before .before .before .before .before .before .is-short .ensures) ∙ c .before .before .before .before .before .before .before .before .before .if1 .left) in
-    let l : length (c .before .before .before .before .before .before .before .before .before .before .before .before .before .args .report .floats) ≡ 8 = search needs in
+    let l : length (c .before .before .before .before .before .before .before .before .before .before .before .before .before .args .report .floats) ≡ floatPlaces = search needs in
     omega arith
 
 same-length : tie.Need-same-length

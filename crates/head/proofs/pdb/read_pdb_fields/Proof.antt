@@ -207,6 +207,10 @@ returns-9 c =
       «scan_days» = c6 .before .x6 .given .0 .0;
       «scan_seconds» = toZ-ofZ {w = w32} {z = c7 .before .x7 .given .0 .0} (record { sfits = c7 .known-told13 .given .0 .1 }) i;
       «elevation_deg» = (c .of-tenths .ensures ∙ ap tenths (toZ-ofZ {w = w16} {z = c8 .before .x8 .given .0 .0} (record { sfits = c8 .known-told15 .given .0 .1 }))) i;
+      «lat_thousandths» = toZ-ofZ {w = w32} {z = c1 .before .x .given .0 .0} (record { sfits = c1 .known-told .given .0 .1 }) i;
+      «lon_thousandths» = toZ-ofZ {w = w32} {z = c2 .before .x2 .given .0 .0} (record { sfits = c2 .known-told3 .given .0 .1 }) i;
+      «height_feet» = toZ-ofZ {w = w16} {z = c3 .before .x3 .given .0 .0} (record { sfits = c3 .known-told5 .given .0 .1 }) i;
+      «elevation_tenths» = toZ-ofZ {w = w16} {z = c8 .before .x8 .given .0 .0} (record { sfits = c8 .known-told15 .given .0 .1 }) i;
     })
     ∙ sym (left8 c8 .1)
 
