@@ -7,7 +7,7 @@
  *
  * What is returned:
  *   0        accepted (l3_known: 1 for a known code, else 0)
- *   1 to 42  refused; the number is the one of the README's table
+ *   1 to 44  refused; the number is the one of the README's table
  *   100      L3_SHORT_REPORT: ints has fewer than L3_INTS places (24), or floats fewer than L3_FLOATS (8)
  *   101      L3_BAD_ARGUMENT: an argument that the function does not take: an unknown scheme, kind or item, an array of a length that is
  *            not the one asked for
@@ -120,6 +120,15 @@ uint32_t l3_gaps(const uint8_t *file, size_t file_len, uint64_t clock, uint32_t 
                  const uint8_t *body, size_t body_len, double *azimuths, size_t azimuths_len,
                  uint16_t *codes, size_t codes_len, float *physical, size_t physical_len, uint8_t *marks, size_t marks_len,
                  int64_t *ints, size_t ints_len, double *floats, size_t floats_len);
+
+/* Two receptions of one product: the sweeps of two bodies with the same file, each read as by l3_gaps, merged. A row is the first's if it
+ * is whole there, else the second's if it is whole there, else a gap, marked with 1. Refused are, in this order: what l3_gaps refuses of
+ * first before 36, then of second; with 43 bodies that differ in packet, counts, a centre, range scale or gate figures; with 44 rows that
+ * are whole in both and have other codes, ints[0] the lowest such radial; 36 as by l3_gaps. first and second may be the same. */
+uint32_t l3_merge(const uint8_t *file, size_t file_len, uint64_t clock, uint32_t scheme, float parameter,
+                  const uint8_t *first, size_t first_len, const uint8_t *second, size_t second_len, double *azimuths, size_t azimuths_len,
+                  uint16_t *codes, size_t codes_len, float *physical, size_t physical_len, uint8_t *marks, size_t marks_len,
+                  int64_t *ints, size_t ints_len, double *floats, size_t floats_len);
 
 /* The sweep as by l3_sweep, and a total for each field of a field plan. plan is a file of records: a tag (one byte), a length (two bytes),
  * the content; all numbers are unsigned and big-endian. Tag 1, length 2: the number of a field. Tag 2, length 8: a strip of the field

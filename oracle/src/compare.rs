@@ -12,6 +12,7 @@ mod charges;
 mod clear;
 mod exports;
 mod fixed;
+mod merges;
 mod plans;
 
 /// How many were accepted and how many refused.
@@ -34,6 +35,9 @@ pub struct Counts {
     /// Gap readings whose body names the packet, and how many of them gave a gap.
     pub gaps: [[Split; 5]; 3],
     pub with_gap: [u64; 3],
+    /// Merged readings whose first body names the packet; bodies merged with themselves, and receptions that merge and that disagree.
+    pub merges: [[Split; 5]; 3],
+    pub merge_laws: [u64; 3],
     /// Field plans with a body that names the packet.
     pub plans: [[Split; 5]; 3],
     /// Accepted plans with a strip cut in two, with a strip moved, with another code in a cell.
@@ -104,9 +108,11 @@ impl Compare {
         }
         why.extend(fault);
         let place_in = match case {
-            Case::Token { file } | Case::Sweep { file, .. } | Case::Gaps { file, .. } | Case::Plan { file, .. } => {
-                Some(file)
-            }
+            Case::Token { file }
+            | Case::Sweep { file, .. }
+            | Case::Gaps { file, .. }
+            | Case::Merge { file, .. }
+            | Case::Plan { file, .. } => Some(file),
             _ => None,
         };
         if let (Some(place), Some(file)) = (place, place_in) {
@@ -127,7 +133,7 @@ impl Compare {
     fn raw(&mut self, case: &Case, answer: &Answer, raw: [i64; 4]) -> Option<String> {
         let (file, block) = match case {
             Case::Pdb { file, block } => (file, *block),
-            Case::Sweep { file, .. } | Case::Gaps { file, .. } | Case::Plan { file, .. } => {
+            Case::Sweep { file, .. } | Case::Gaps { file, .. } | Case::Merge { file, .. } | Case::Plan { file, .. } => {
                 (file, model::header_place(file).map_or(0, |header| header + 18))
             }
             _ => return Some("a description record".into()),
@@ -223,6 +229,7 @@ impl Compare {
             }
             Case::Sweep { file, scheme: Scheme::Legacy(post_scale), .. }
             | Case::Gaps { file, scheme: Scheme::Legacy(post_scale), .. }
+            | Case::Merge { file, scheme: Scheme::Legacy(post_scale), .. }
                 if !given.refusal().is_some_and(head) =>
             {
                 (file, trap::during(case, || self.port.block(file)), *post_scale)
@@ -334,8 +341,10 @@ impl Compare {
     pub fn random(&mut self, seed: u64, number: u64) {
         let rng = &mut Rng::new(seed, number);
         let case = match rng.below(100) {
-            0..=33 => cases::sweep(rng),
-            34..=36 => return self.export(rng),
+            0..=27 => cases::sweep(rng),
+            28..=30 => return self.export(rng),
+            31..=34 => return drop(self.merge(&cases::merge(rng))),
+            35 | 36 => return self.receptions(rng),
             37 => cases::charge(rng),
             38 => return self.charge_laws(rng),
             39..=42 => return self.clear(rng),
@@ -417,7 +426,11 @@ impl Counts {
         if let Case::Export { .. } = case {
             self.exports.count(answer);
         }
-        if let Case::Sweep { scheme, body, .. } | Case::Gaps { scheme, body, .. } | Case::Plan { scheme, body, .. } = case {
+        if let Case::Sweep { scheme, body, .. }
+        | Case::Gaps { scheme, body, .. }
+        | Case::Merge { scheme, body, .. }
+        | Case::Plan { scheme, body, .. } = case
+        {
             let packet = match body.get(16..18) {
                 Some([0, 16]) => Packet::P16,
                 Some([0xaf, 0x1f]) => Packet::Af1f,
@@ -426,6 +439,7 @@ impl Counts {
             };
             let table = match case {
                 Case::Gaps { .. } => &mut self.gaps,
+                Case::Merge { .. } => &mut self.merges,
                 Case::Plan { .. } => &mut self.plans,
                 _ => &mut self.sweeps,
             };
@@ -433,7 +447,7 @@ impl Counts {
             if model::is_clear(body) {
                 self.clear[packet as usize][scheme.index()].count(answer);
             }
-            if matches!(answer, Answer::Gaps(_, marks) if marks.contains(&1)) {
+            if matches!((case, answer), (Case::Gaps { .. }, Answer::Gaps(_, marks)) if marks.contains(&1)) {
                 self.with_gap[packet as usize] += 1;
             }
         }
@@ -446,7 +460,7 @@ impl Counts {
     /// Refusals and packets under schemes that did not occur.
     pub fn missing(&self) -> Vec<String> {
         let mut missing: Vec<String> =
-            (1..=NAMES.len() as u32).filter(|n| !self.refusals.contains_key(n)).map(|n| format!("refusal {n}")).collect();
+            (1..).zip(NAMES).filter(|(n, name)| !name.is_empty() && !self.refusals.contains_key(n)).map(|(n, _)| format!("refusal {n}")).collect();
         for packet in Packet::ALL {
             for (scheme, name) in Scheme::NAMES.iter().enumerate() {
                 let [split, gaps] = [self.sweeps, self.gaps].map(|table| table[packet as usize][scheme]);
@@ -460,6 +474,9 @@ impl Counts {
                 }
                 if packet != Packet::P28 && fits && self.clear[packet as usize][scheme].accepted == 0 {
                     missing.push(format!("a clear scan of packet {} under {name}", packet.name()));
+                }
+                if fits && self.merges[packet as usize][scheme].accepted == 0 {
+                    missing.push(format!("merged readings of packet {} under {name}", packet.name()));
                 }
                 if fits && gaps.accepted == 0 {
                     missing.push(format!("a gap reading of packet {} under {name}", packet.name()));
@@ -492,6 +509,9 @@ impl Counts {
         print_table("gap readings by packet and scheme, accepted / refused:", &self.gaps);
         let [_, af1f, generic] = self.with_gap;
         println!("  with a gap: packet AF1F {af1f}, packet 28 {generic}");
+        print_table("merged readings by packet and scheme, accepted / refused:", &self.merges);
+        let [itself, merged, other] = self.merge_laws;
+        println!("  held to another: a body and itself {itself}, receptions of one body that merge {merged}, with other codes {other}");
         print_table("field plans by packet and scheme, accepted / refused:", &self.plans);
         let [cut, moved, code] = self.plan_laws;
         println!("  held to another: a strip cut in two {cut}, a strip moved {moved}, another code in a cell {code}");

@@ -30,7 +30,8 @@ pub fn damaged(rng: &mut Rng, layout: &Layout, body: &[u8]) -> Vec<u8> {
     second
 }
 
-fn row(rng: &mut Rng, packet: Packet, data: &mut [u8]) {
+/// Other data for a radial, as many bytes.
+pub fn row(rng: &mut Rng, packet: Packet, data: &mut [u8]) {
     if data.is_empty() {
         return;
     }

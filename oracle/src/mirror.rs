@@ -11,6 +11,7 @@ use std::sync::atomic::{AtomicUsize, Ordering};
 mod charges;
 mod clear;
 mod exports;
+mod merges;
 mod plans;
 
 macro_rules! slips {
@@ -169,6 +170,25 @@ slips! {
     NoWholesInBlock,
     NoWholesWithGaps,
     NextPlaceTaken,
+    SecondBodyFirst,
+    SecondRefusalPasses,
+    ShortBeforeDifferent,
+    ShortBeforeDisagreement,
+    DisagreementBeforeDifferent,
+    FloatsAsNumbers,
+    ZerosAlike,
+    RangeScaleIgnored,
+    FirstGateIgnored,
+    FirstCentreAlone,
+    PacketIgnored,
+    HighestDisagreement,
+    GapDisagrees,
+    LastCodeIgnored,
+    FirstGapStays,
+    SecondGapTaken,
+    GapValuesStay,
+    MarkStays,
+    BothGapsUnmarked,
 }
 
 /// 1 + the slip's place in `SLIPS`, or 0.
@@ -188,6 +208,7 @@ pub fn entries() -> Entries {
     Entries {
         sweep,
         gaps,
+        merge,
         totals,
         symbology,
         export16,
@@ -336,10 +357,10 @@ unsafe fn reported(
     }
 }
 
-/// File, clock, scheme and its parameter, body, and a plan: what a sweep is read from.
+/// File, clock, scheme and its parameter, body, and a plan or a second body: what a sweep is read from.
 type Input = (Vec<u8>, u64, (u32, f32), Vec<u8>, Option<Vec<u8>>);
 
-/// Where a picture goes, its marks in the gap reading, and the totals of a plan.
+/// Where a picture goes, its marks with gaps, and the totals of a plan.
 struct Places<'a> {
     azimuths: &'a mut [f64],
     codes: &'a mut [u16],
@@ -348,7 +369,7 @@ struct Places<'a> {
     totals: Option<&'a mut [u64]>,
 }
 
-/// An entry that reads a sweep, with or without a plan and one more buffer.
+/// An entry that reads a sweep, with or without a plan or a second body and one more buffer.
 macro_rules! sweep_entry {
     ($name:ident($($plan:ident, $plan_len:ident)?; $($lent:ident: $type:ty, $lent_len:ident)?)) => {
         unsafe extern "C" fn $name(
@@ -390,6 +411,7 @@ macro_rules! sweep_entry {
 
 sweep_entry!(sweep(;));
 sweep_entry!(gaps(; marks: u8, marks_len));
+sweep_entry!(merge(second, second_len; marks: u8, marks_len));
 sweep_entry!(totals(plan, plan_len; totals: u64, totals_len));
 
 fn reading((file, clock, (scheme, parameter), body, plan): Input, mut places: Places, report: Option<Report>) -> u32 {
@@ -401,6 +423,7 @@ fn reading((file, clock, (scheme, parameter), body, plan): Input, mut places: Pl
     let case = Case::Sweep { clock: clock.into(), scheme, lent, file, body };
     let given = match (plan, &places.marks, &places.totals) {
         (Some(plan), _, Some(totals)) => plans::read(&case.with_plan(totals.len(), plan)),
+        (Some(second), Some(marks), _) => merges::read(&case.with_marks(marks.len()).with_second(second)),
         (_, Some(marks), _) => {
             let case = case.with_marks(marks.len());
             slipped(&case, answer(&case))

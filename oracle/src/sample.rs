@@ -177,6 +177,11 @@ impl List {
         self.add(&format!("gaps_{name}"), Case::Gaps { clock: CLOCK, scheme, lent, marks: 10, file, body });
     }
 
+    fn merge(&mut self, name: &str, scheme: Scheme, file: Vec<u8>, bodies: [Vec<u8>; 2]) {
+        let (lent, [body, second]) = (Lent { azimuths: 10, codes: 64, physical: 64 }, bodies);
+        self.add(&format!("merge_{name}"), Case::Merge { clock: CLOCK, scheme, lent, marks: 10, file, body, second });
+    }
+
     fn plan(&mut self, name: &str, scheme: Scheme, file: Vec<u8>, body: Vec<u8>, plan: Vec<u8>) {
         let lent = Lent { azimuths: 10, codes: 64, physical: 64 };
         let sweep = Case::Sweep { clock: CLOCK, scheme, lent, file, body };
@@ -509,6 +514,86 @@ pub fn gaps() -> Vec<(String, Case)> {
         let (file, body) = (class(), runs([whole, short, whole]));
         list.add(&format!("gaps_{name}"), Case::Gaps { clock: CLOCK, scheme: Scheme::Class, lent, marks, file, body });
     }
+    list.0
+}
+
+/// M-111: receptions under every scheme with rows whole in one body, in both and in none; each figure that differs, rows of other codes,
+/// and the order of the refusals.
+pub fn merges() -> Vec<(String, Case)> {
+    let mut list = List(vec![]);
+    let (whole, short): (&[u8], &[u8]) = (&[0x31, 0x25], &[0x31, 0x35]);
+    let rays = |levels: [&'static [i32]; 3]| p28(&levels.map(|row| Ray(10.0, 1.0, 3, row)));
+    let (good, bad): (&[i32], &[i32]) = (&[5, 0, 65_535], &[5, 65_536, 7]);
+    let runs = |rows: [&[u8]; 3]| af1f(5, &rows.map(|data| (data.len() as u16 / 2, 3599, 10, data)));
+    let bytes = || p16(2, &[(3, 0, 10, &[7, 9, 0]), (2, 3599, 10, &[0, 255])]);
+    for (name, scheme, file) in [
+        ("halfword", Scheme::Halfword, halfword(-320, 5, 254)),
+        ("float", Scheme::Float, float(16.0, 128.0)),
+        ("precip", Scheme::Precip(0.254), precip(10.0, 1.0, [250, 1, 2])),
+        ("floor_0", Scheme::Precip(25.4), precip(10.0, 1.0, [255, 0, 2])),
+        ("legacy", Scheme::Legacy(0.514444), legacy()),
+        ("class", Scheme::Class, class()),
+    ] {
+        let bodies = [runs([whole, short, short]), runs([short, whole, short])];
+        list.merge(&format!("af1f_{name}"), scheme, file.clone(), bodies);
+        if matches!(scheme, Scheme::Precip(_) | Scheme::Class) {
+            list.merge(&format!("28_{name}"), scheme, file.clone(), [rays([bad, good, bad]), rays([good, bad, bad])]);
+        }
+        if !matches!(scheme, Scheme::Legacy(_)) {
+            list.merge(&format!("16_{name}"), scheme, file, [bytes(), bytes()]);
+        }
+    }
+    let all = || runs([whole, whole, whole]);
+    let beams = |start: u16, width: u16, range: u8| {
+        let mut body = af1f(5, &[(1, 0, 10, whole), (1, start, width, whole)]);
+        body[27] = range;
+        body
+    };
+    let ray = |azimuth: f32, width: f32| p28(&[Ray(azimuth, width, 1, &[5])]);
+    for (name, one, other) in [
+        ("other_codes", all(), runs([whole, short, &[0x31, 0x26]])),
+        ("other_codes_twice", runs([short, &[0x11, 0x45], &[0x55, 0x00]]), all()),
+        ("gap_beside_other_codes", runs([short, whole, whole]), runs([&[0x55, 0x00], short, whole])),
+        ("other_runs_same_codes", runs([&[0x11, 0x41], whole, &[0x31, 0x00, 0x25, 0xff]]), runs([&[0x31, 0x21], whole, whole])),
+        ("no_gap", all(), all()),
+        ("16_unused_bytes", p16(2, &[(3, 0, 10, &[7, 9, 0])]), p16(2, &[(3, 0, 10, &[7, 9, 1])])),
+        ("16_other_codes", p16(2, &[(2, 0, 10, &[7, 9])]), p16(2, &[(2, 0, 10, &[7, 8])])),
+        ("28_other_codes", rays([good, good, good]), rays([bad, good, &[5, 0, 65_534]])),
+        ("other_packet", p16(5, &[(5, 0, 10, &[1, 1, 1, 5, 5])]), af1f(5, &[(1, 0, 10, whole)])),
+        ("other_radials", all(), af1f(5, &[(1, 3599, 10, whole)])),
+        ("other_bins", all(), af1f(4, &[whole, whole, whole].map(|_| (1, 3599, 10, &[0x31, 0x15][..])))),
+        ("other_range_scale", beams(10, 10, 1), beams(10, 10, 2)),
+        ("other_centre", beams(10, 10, 1), beams(10, 12, 1)),
+        ("same_centre", beams(10, 10, 1), beams(11, 8, 1)),
+        ("other_centre_before_other_codes", runs([whole, whole, whole]), af1f(5, &[(1, 3599, 10, &[0x55, 0]), (1, 3599, 10, whole), (1, 0, 10, whole)])),
+        ("28_zeros", ray(0.0, 0.0), ray(-0.0, -0.0)),
+        ("28_nans", ray(f32::NAN, 1.0), ray(1.0, -f32::NAN)),
+        ("first_19", all()[..41].to_vec(), vec![0; 18]),
+        ("second_13", all(), vec![0; 18]),
+        ("second_before_43", beams(10, 10, 1), beams(10, 101, 2)),
+        ("clear", header(0xaf1f, 0, 5, 0), header(0xaf1f, 0, 5, 0)),
+        ("clear_and_other", header(0xaf1f, 0, 5, 0), all()),
+    ] {
+        list.merge(name, Scheme::Class, class(), [one, other]);
+    }
+    list.merge("second_10", Scheme::Legacy(1.0), legacy(), [all(), bytes()]);
+    list.merge("first_9", Scheme::Halfword, halfword(-320, 0, 254), [all(), vec![]]);
+    for (name, azimuths, codes, physical, marks) in [
+        ("lent_exactly", 3, 15, 15, 3),
+        ("lent_azimuths", 2, 0, 0, 0),
+        ("lent_codes", 3, 14, 0, 0),
+        ("lent_physical", 3, 15, 14, 0),
+        ("lent_marks", 3, 15, 15, 2),
+    ] {
+        let lent = Lent { azimuths, codes, physical };
+        let (file, body, second) = (class(), runs([short, whole, short]), all());
+        let case = Case::Merge { clock: CLOCK, scheme: Scheme::Class, lent, marks, file, body, second };
+        list.add(&format!("merge_{name}"), case);
+    }
+    let lent = Lent { azimuths: 0, codes: 0, physical: 0 };
+    let (file, body, second) = (class(), all(), runs([whole, whole, &[0x55, 0]]));
+    let case = Case::Merge { clock: CLOCK, scheme: Scheme::Class, lent, marks: 0, file, body, second };
+    list.add("merge_44_before_36", case);
     list.0
 }
 
@@ -913,6 +998,7 @@ pub fn list() -> Vec<(String, Case)> {
         }
     }
     list.extend(gaps());
+    list.extend(merges());
     list.extend(dates());
     list.extend(plans());
     list.extend(charges());

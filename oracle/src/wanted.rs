@@ -6,6 +6,7 @@ use lines::{Answer, Case, Lent, Packet, Refusal, Scheme};
 pub fn answer(case: &Case) -> Answer {
     match case {
         Case::Gaps { marks, .. } => gaps(case.clone().ordinary(), *marks),
+        Case::Merge { .. } => merged(case),
         Case::Plan { totals, plan, .. } => planned(case.clone().ordinary(), *totals, plan),
         Case::Sweep { body, .. } | Case::Sym { body } if model::is_clear(body) => clear(case.clone()),
         Case::Export { out, body } => export(*out, body),
@@ -36,6 +37,30 @@ fn gaps(mut case: Case, marks: usize) -> Answer {
         made[radial] = 1;
     }
     Answer::Gaps(sweep, made)
+}
+
+/// M-111: the gap readings of both bodies in buffers that are long enough, so that each is refused as it is before 36; then 43 and 44;
+/// then 36 of the first buffer that is too short.
+fn merged(case: &Case) -> Answer {
+    let Case::Merge { clock, scheme, lent, marks, file, body, second } = case else { unreachable!() };
+    let mut readings = vec![];
+    for body in [body, second] {
+        let (clock, scheme, lent) = (*clock, *scheme, Lent::MOST);
+        match gaps(Case::Sweep { clock, scheme, lent, file: file.clone(), body: body.clone() }, usize::MAX) {
+            Answer::Gaps(sweep, marks) => readings.push((sweep, marks)),
+            refused => return refused,
+        }
+    }
+    let (sweep, made) = match model::merges::merged(&readings[0], &readings[1]) {
+        Err(refusal) => return Answer::Refused(refusal),
+        Ok(merged) => merged,
+    };
+    let (radials, cells) = (sweep.picture.radials, sweep.picture.codes.len());
+    let places = [(lent.azimuths, radials), (lent.codes, cells), (lent.physical, cells), (*marks, radials)];
+    match places.iter().position(|(lent, need)| lent < need) {
+        Some(buffer) => Answer::Refused(Refusal::new(36, &[buffer as i128])),
+        None => Answer::Gaps(sweep, made),
+    }
 }
 
 /// M-107: the Rust is not asked about a clear scan. It is answered as the same body with a row would be, in buffers that are long

@@ -20,7 +20,7 @@ fn the_rust_agrees_with_itself() {
     assert_eq!(compare.counts.differences, 0);
     assert_eq!(compare.counts.missing(), Vec::<String>::new());
     assert!(!compare.counts.plan_laws.contains(&0) && !compare.counts.charge_laws.contains(&0));
-    assert!(compare.counts.clear_alike > 0);
+    assert!(compare.counts.clear_alike > 0 && !compare.counts.merge_laws.contains(&0));
     assert!(!compare.counts.export_laws.contains(&0));
 }
 
@@ -31,6 +31,7 @@ fn a_case_survives_its_line() {
         for case in [
             cases::sweep(rng),
             cases::gaps(rng),
+            cases::merge(rng),
             cases::plan(rng),
             cases::clear(rng),
             cases::field(rng),
@@ -65,8 +66,10 @@ fn a_line_lends_no_more_than_a_sweep_has() {
         let case = Case::Sweep { clock, scheme, lent, file, body };
         let Case::Sweep { body, .. } = &case else { unreachable!() };
         let export = Case::Export { out: usize::MAX, body: body.clone() };
+        let gaps = case.clone().with_marks(usize::MAX);
+        let merge = gaps.clone().with_second(body.clone());
         let with_plan = case.clone().with_plan(usize::MAX, vec![1, 0, 2, 0, 7]);
-        for case in [case.clone(), case.with_marks(usize::MAX), with_plan, export] {
+        for case in [case, gaps, merge, with_plan, export] {
             let outcome = port.run(&case, Lent::MOST);
             assert!(wanted::answer(&case).same(&outcome.answer) && outcome.fault.is_none());
         }

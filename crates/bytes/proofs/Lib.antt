@@ -1,5 +1,6 @@
 pub mod Numbers
 pub mod Patterns
+pub mod Equal
 pub mod Codes
 pub mod Every
 pub mod Counted

@@ -7,7 +7,7 @@ use lib.Ieee.{Float, nan, inf, fin, binary32, ofBits, isNan, nanBits, ne, eq}
 use lib.Ieee.Bits.{nanBits-is, nanBits-above}
 use borrow.Author.Tests.{lt-ltb, le-ltb}
 
-is-nan : (x : Float) → isNan x ≡ true → x ≡ nan
+pub is-nan : (x : Float) → isNan x ≡ true → x ≡ nan
 unfolding isNan
 is-nan nan t = refl
 is-nan (inf s) t = cc

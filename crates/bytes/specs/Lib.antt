@@ -1,5 +1,6 @@
 pub mod Bytes
 pub mod Float
+pub mod SameFloat
 pub mod Text
 pub mod Refusal
 pub mod Result

@@ -6,7 +6,7 @@ use lib.Ieee.{Float}
 use Rattle.bytes.specs.declared.error.XdrItem.{XdrItem}
 use Rattle.bytes.specs.declared.error.Buffer.{Buffer}
 use Rattle.bytes.specs.declared.error.Level3DecodeError.{Level3DecodeError}
-use Rattle.bytes.specs.declared.error.Level3DecodeError.the-variants.{NoAwipsToken, NoMessageHeader, PdbFieldOutOfBounds, ImplausibleScanTime, ScanTimeTooFarAhead, ClockOutOfRange, NonFiniteScale, NonFiniteOffset, NonPositiveIncrement, SchemeMismatch, UnexpectedTrailingBytes, SymbologyTruncated, BadSymbologyHeader, UnsupportedPacketCode, EmptySweep, GridTooLarge, NonZeroFirstBin, AllocationExceedsBody, TruncatedAtRadial, ImplausibleRadialWidth, RadialByteCountMismatch, RleExpansionMismatch, XdrTruncated, XdrStringTooLong, XdrArrayTooLong, XdrListTooLong, UnsupportedXdrComponent, UnexpectedXdrComponentCount, NonPositiveXdrGeometry, ImplausibleXdrRadialCount, XdrRadialBinCountMismatch, XdrRadialDataLengthMismatch, XdrGridTooLarge, XdrRawLevelOutOfRange, XdrTrailingBytes, BufferTooShort, PlanMalformed, FieldRepeated, StripOutside, TariffMalformed, TotalTooLarge, RowTooLong}
+use Rattle.bytes.specs.declared.error.Level3DecodeError.the-variants.{NoAwipsToken, NoMessageHeader, PdbFieldOutOfBounds, ImplausibleScanTime, ScanTimeTooFarAhead, ClockOutOfRange, NonFiniteScale, NonFiniteOffset, NonPositiveIncrement, SchemeMismatch, UnexpectedTrailingBytes, SymbologyTruncated, BadSymbologyHeader, UnsupportedPacketCode, EmptySweep, GridTooLarge, NonZeroFirstBin, AllocationExceedsBody, TruncatedAtRadial, ImplausibleRadialWidth, RadialByteCountMismatch, RleExpansionMismatch, XdrTruncated, XdrStringTooLong, XdrArrayTooLong, XdrListTooLong, UnsupportedXdrComponent, UnexpectedXdrComponentCount, NonPositiveXdrGeometry, ImplausibleXdrRadialCount, XdrRadialBinCountMismatch, XdrRadialDataLengthMismatch, XdrGridTooLarge, XdrRawLevelOutOfRange, XdrTrailingBytes, BufferTooShort, PlanMalformed, FieldRepeated, StripOutside, TariffMalformed, TotalTooLarge, RowTooLong, DifferentSweeps, RowsDisagree}
 
 -- a value that a refusal carries: a whole number, a float, the XDR item cut short, the buffer that is short
 pub data Value : Type 0 where
@@ -66,3 +66,5 @@ refusalOf (StripOutside o) = kind 39 (nat o ∷ [])
 refusalOf TariffMalformed = kind 40 []
 refusalOf TotalTooLarge = kind 41 []
 refusalOf RowTooLong = kind 42 []
+refusalOf DifferentSweeps = kind 43 []
+refusalOf (RowsDisagree r) = kind 44 (nat r ∷ [])

@@ -7,13 +7,14 @@ use mathlib.Core.Path.{_≡_, refl, subst}
 use native.Mathlib.Omega.{arith}
 use lib.ListN.{length}
 use lib.Ieee.{Float}
-use Rattle.bytes.specs.Result.{accepted}
+use Rattle.bytes.specs.Result.{Result, accepted}
 use Rattle.head.specs.declared.pdb.PdbFields.{PdbFields}
 use Rattle.head.specs.Pdb.{pdbFields, Coherent}
 use Rattle.head.proofs.Coherence.{coherent}
 use Rattle.sweep.specs.Sweep.{Accepted, sweepIn, Buffers, readInto}
 use Rattle.sweep.specs.GapSweep.{GapSweep, gapSweepIn, GapBuffers, gapsInto}
-use Rattle.sweep.proofs.Coherence.{sweep-coherent, gaps-coherent}
+use Rattle.sweep.specs.MergeSweep.{mergeInto}
+use Rattle.sweep.proofs.Coherence.{sweep-coherent, gaps-coherent, merge-coherent}
 use Rattle.fields.specs.Fields.{Totalled, totalsIn, TotalsBuffers, totalsInto}
 use Rattle.fields.proofs.Coherence.{totals-coherent}
 use Rattle.capi.specs.declared.report.Report.{Report}
@@ -21,7 +22,7 @@ use Rattle.capi.specs.declared.places.PicturePlaces.{PicturePlaces}
 use Rattle.capi.specs.declared.places.ScalePlaces.{ScalePlaces}
 use Rattle.capi.specs.Report.{reportOf, withPlace, Said, said, failed, saying, short, over, Leaves}
 use Rattle.capi.specs.Places.{placed, headPlaces, fieldsReport, sweepReport, totalsReport, Beside}
-use Rattle.capi.specs.Entries.{schemeSaid, sweepSaid, SweepLeaves, gapsSaid, GapsLeave, totalsSaid, TotalsLeave}
+use Rattle.capi.specs.Entries.{schemeSaid, sweepSaid, SweepLeaves, gapsSaid, mergeSaid, GapsLeave, totalsSaid, TotalsLeave}
 
 -- ---- reports
 
@@ -71,12 +72,25 @@ module _ (scheme : ℕ) (x : Float) (file : List ℕ) (clock : ℕ) (body : List
       left (sweepReport (p .sweep)) (shows (sweep-coherent (g .0) file clock body _ _ _ p (g .1)) _ _ _ _ 0) room
       (subst (λ s. Leaves (saying (λ a. reportOf (sweepIn a) sweepReport) s) n ints ints' floats floats') e (l .report))
 
+  -- with marks
+  marked-beside : (d : GapBuffers → Said (Result GapSweep)) {old new : GapBuffers} → GapsLeave d n old new ints ints' floats floats'
+      → (p : GapSweep) → d old ≡ said (accepted p) → Coherent (p .sweep .fields) → Beside (p .sweep .fields) ints' floats'
+  marked-beside d l p e good =
+      left (sweepReport (p .sweep)) (shows good _ _ _ _ 0) room
+      (subst (λ s. Leaves (saying (λ a. reportOf (gapSweepIn a) sweepReport) s) n ints ints' floats floats') e (l .report))
+
   pub gaps-beside : {old new : GapBuffers} → GapsLeave (gapsSaid scheme x file clock body) n old new ints ints' floats floats'
       → (p : GapSweep) → gapsSaid scheme x file clock body old ≡ said (accepted p) → Beside (p .sweep .fields) ints' floats'
   gaps-beside {old} l p e =
       let g = said-by (λ h. gapsInto h file clock body old) (schemeSaid scheme x) (accepted p) e in
-      left (sweepReport (p .sweep)) (shows (gaps-coherent (g .0) file clock body _ _ _ _ p (g .1)) _ _ _ _ 0) room
-      (subst (λ s. Leaves (saying (λ a. reportOf (gapSweepIn a) sweepReport) s) n ints ints' floats floats') e (l .report))
+      marked-beside (gapsSaid scheme x file clock body) l p e (gaps-coherent (g .0) file clock body _ _ _ _ p (g .1))
+
+  -- `body` is the first of two
+  pub merge-beside : (second : List ℕ) {old new : GapBuffers} → GapsLeave (mergeSaid scheme x file clock body second) n old new ints ints' floats floats'
+      → (p : GapSweep) → mergeSaid scheme x file clock body second old ≡ said (accepted p) → Beside (p .sweep .fields) ints' floats'
+  merge-beside second {old} l p e =
+      let g = said-by (λ h. mergeInto h file clock body second old) (schemeSaid scheme x) (accepted p) e in
+      marked-beside (mergeSaid scheme x file clock body second) l p e (merge-coherent (g .0) file clock body second _ _ _ _ p (g .1))
 
   pub totals-beside : (plan : List ℕ) {old new : TotalsBuffers} → TotalsLeave (totalsSaid scheme x file clock body plan) n old new ints ints' floats floats'
       → (t : Totalled) → totalsSaid scheme x file clock body plan old ≡ said (accepted t) → Beside (t .sweep .sweep .fields) ints' floats'

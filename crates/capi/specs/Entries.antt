@@ -19,6 +19,7 @@ use Rattle.scale.specs.declared.physical.Scheme.the-variants as Scheme
 use Rattle.symbology.specs.Answers.{Picture, figuresIn}
 use Rattle.sweep.specs.Sweep.{Accepted, sweepIn, Buffers, readInto}
 use Rattle.sweep.specs.GapSweep.{GapSweep, gapSweepIn, GapBuffers, gapsInto}
+use Rattle.sweep.specs.MergeSweep.{mergeInto}
 use Rattle.fields.specs.Fields.{Totalled, totalsIn, TotalsBuffers, totalsInto}
 use Rattle.export.specs.Export.{lengthIn}
 use Rattle.xdr.specs.Xdr as Xdr
@@ -90,7 +91,11 @@ pub record SweepLeaves (s : Buffers → Said (Result Accepted)) (number : ℕ) (
 abbrev pub gapsSaid : ℕ → Float → List ℕ → ℕ → List ℕ → GapBuffers → Said (Result GapSweep)
 gapsSaid n x file clock body old = saying (λ scheme. gapsInto scheme file clock body old) (schemeSaid n x)
 
--- The same of l3_gaps, and of the fourth buffer, the marks.
+-- two receptions of it, merged into buffers that hold `old`
+abbrev pub mergeSaid : ℕ → Float → List ℕ → ℕ → List ℕ → List ℕ → GapBuffers → Said (Result GapSweep)
+mergeSaid n x file clock first second old = saying (λ scheme. mergeInto scheme file clock first second old) (schemeSaid n x)
+
+-- The same of l3_gaps and l3_merge, and of the fourth buffer, the marks.
 pub record GapsLeave (s : GapBuffers → Said (Result GapSweep)) (number : ℕ) (old new : GapBuffers) (ints ints' : List ℕ) (floats floats' : List Float) : Type 0 where
   pub report : Leaves (saying (λ a. reportOf (gapSweepIn a) sweepReport) (s old)) number ints ints' floats floats'
   pub azimuths : new .azimuths ≡ lentBy (roomFirst ints floats (s old)) (λ p. p .azimuths) (old .azimuths)

@@ -263,6 +263,8 @@ pub(crate) fn refusal_report(error: Level3DecodeError) -> Report
         Level3DecodeError::TariffMalformed => wholes(40, 0, 0, 0, 0),
         Level3DecodeError::TotalTooLarge => wholes(41, 0, 0, 0, 0),
         Level3DecodeError::RowTooLong => wholes(42, 0, 0, 0, 0),
+        Level3DecodeError::DifferentSweeps => wholes(43, 0, 0, 0, 0),
+        Level3DecodeError::RowsDisagree { radial } => wholes(44, radial as u64, 0, 0, 0),
     }
 }
 

@@ -1,4 +1,4 @@
-// The sweep reading: without gaps, with them, with the totals of a field plan.
+// The sweep reading: without gaps, with them, of two receptions, with the totals of a field plan.
 use crate::report::Report;
 use crate::report::is_short;
 use crate::report::refusal_report;
@@ -13,7 +13,7 @@ ghost use Rattle.sweep.specs.GapSweep.{gapBuffers};
 ghost use Rattle.fields.specs.Fields.{totalsAnswerOf, totalsBuffers};
 ghost use Rattle.capi.specs.Report.{reportOf, failed, short};
 ghost use Rattle.capi.specs.Places.{sweepReport, totalsReport};
-ghost use Rattle.capi.specs.Entries.{schemeSaid, sweepSaid, SweepLeaves, gapsSaid, GapsLeave, totalsSaid, TotalsLeave, askedOf};
+ghost use Rattle.capi.specs.Entries.{schemeSaid, sweepSaid, SweepLeaves, gapsSaid, mergeSaid, GapsLeave, totalsSaid, TotalsLeave, askedOf};
 
 // The scheme that is asked for, or the number with which an entry fails.
 pub enum Asked {
@@ -126,6 +126,44 @@ pub extern "C" fn l3_gaps(
         clock,
         asked,
         body,
+        azimuths,
+        codes,
+        physical,
+        marks,
+    );
+    write_report(sweep_report(answer), ints, floats)
+}
+
+#[no_mangle]
+pub extern "C" fn l3_merge(
+    file: &[u8],
+    clock: u64,
+    scheme: u32,
+    parameter: f32,
+    first: &[u8],
+    second: &[u8],
+    azimuths: &mut [f64],
+    codes: &mut [u16],
+    physical: &mut [f32],
+    marks: &mut [u8],
+    ints: &mut [u64],
+    floats: &mut [f64],
+) -> u32
+    ensures { λ r. ⌜ GapsLeave (mergeSaid scheme parameter (now (file .entry)) clock (now (first .entry)) (now (second .entry))) r
+        (gapBuffers (now (azimuths .entry)) (now (codes .entry)) (now (physical .entry)) (now (marks .entry)))
+        (gapBuffers (now (azimuths .exit)) (now (codes .exit)) (now (physical .exit)) (now (marks .exit)))
+        (now (ints .entry)) (now (ints .exit)) (now (floats .entry)) (now (floats .exit)) ⌝ }
+{
+    let asked = match asked_scheme(scheme, parameter, ints.len(), floats.len()) {
+        Asked::Known(s) => s,
+        Asked::Failed(number) => return number,
+    };
+    let answer = sweep::merge::merge_receptions(
+        file,
+        clock,
+        asked,
+        first,
+        second,
         azimuths,
         codes,
         physical,

@@ -68,6 +68,9 @@ fn kind_of(line: &[u8]) -> Kind {
     if is(line, b"gaps") {
         return Kind::Gaps;
     }
+    if is(line, b"merge") {
+        return Kind::Merge;
+    }
     if is(line, b"plan") {
         return Kind::Plan;
     }
@@ -145,7 +148,7 @@ fn is_formed(line: &[u8], kind: Kind) -> bool {
     match kind {
         Kind::Sweep => has(line, b"wwcsnnnbb"),
         Kind::Gaps => has(line, b"wwcsnnnnbb"),
-        Kind::Plan => has(line, b"wwcsnnnnbbb"),
+        Kind::Merge | Kind::Plan => has(line, b"wwcsnnnnbbb"),
         Kind::Symbology | Kind::Token | Kind::Header | Kind::Trailing => has(line, b"wwb"),
         Kind::Export => has(line, b"wwnb"),
         Kind::Time => has(line, b"wwchz"),
@@ -166,6 +169,7 @@ fn print(kind: Kind, line: &[u8]) {
     match kind {
         Kind::Sweep => crate::sweeps::answer(line, Reading::Plain),
         Kind::Gaps => crate::sweeps::answer(line, Reading::Gaps),
+        Kind::Merge => crate::sweeps::answer(line, Reading::Merge),
         Kind::Plan => crate::sweeps::answer(line, Reading::Plan),
         Kind::Symbology => crate::body::symbology(line),
         Kind::Export => crate::body::export16(line),

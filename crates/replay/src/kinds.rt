@@ -5,6 +5,7 @@ ghost use Rattle.replay.specs.Kinds.{fieldKind, schemeNumber, parameterO
 pub enum Kind {
     Sweep,
     Gaps,
+    Merge,
     Plan,
     Symbology,
     Export,

@@ -1,4 +1,4 @@
-// The sweep reading: without gaps, with them, with the totals of a field plan.
+// The sweep reading: without gaps, with them, of two receptions, with the totals of a field plan.
 use crate::lent::float;
 use crate::lent::int;
 use crate::print::held_single;
@@ -12,6 +12,7 @@ ghost use lib.ListN.{length};
 pub enum Reading {
     Plain,
     Gaps,
+    Merge,
     Plan,
 }
 
@@ -89,7 +90,7 @@ fn print_totals(totals: &[u64], n: usize) {
 // How many places of the marks are written, and of the totals.
 fn marked(reading: Reading, ints: &[u64]) -> usize {
     match reading {
-        Reading::Gaps => crate::body::radials(ints),
+        Reading::Gaps | Reading::Merge => crate::body::radials(ints),
         _ => 0,
     }
 }
@@ -105,7 +106,7 @@ fn totalled(reading: Reading, ints: &[u64]) -> usize {
 fn print_more(reading: Reading, ints: &[u64], marks: &[u8], totals: &[u64]) {
     match reading {
         Reading::Plain => {}
-        Reading::Gaps => print_marks(marks, marked(reading, ints)),
+        Reading::Gaps | Reading::Merge => print_marks(marks, marked(reading, ints)),
         Reading::Plan => print_totals(totals, totalled(reading, ints)),
     }
 }
@@ -161,13 +162,14 @@ fn print(
     );
 }
 
-// The word of the file; that of the body is the next, and then that of the plan. The lengths of the buffers stand before it.
+// The word of the file; that of the body is the next, and then that of the second body or of the plan. The lengths of the buffers stand before it.
 fn file_word(reading: Reading) -> usize
     ensures { λ r. ⌜ r ≤ 8 ⌝ }
 {
     match reading {
         Reading::Plain => 7,
         Reading::Gaps => 8,
+        Reading::Merge => 8,
         Reading::Plan => 8,
     }
 }
@@ -218,6 +220,24 @@ fn ask(
             ints,
             floats,
         ),
+        Reading::Merge => {
+            let mut other = crate::hex::room();
+            let k = crate::hex::read(word(line, at + 2), &mut other);
+            capi::sweeps::l3_merge(
+                file,
+                t,
+                s,
+                x,
+                body,
+                &other[..k],
+                azimuths,
+                codes,
+                physical,
+                marks,
+                ints,
+                floats,
+            )
+        }
         Reading::Plan => {
             let mut records = crate::hex::room();
             let k = crate::hex::read(word(line, at + 2), &mut records);
@@ -288,7 +308,7 @@ fn answer_on(
 
 fn marks_size(line: &[u8], reading: Reading) -> usize {
     match reading {
-        Reading::Gaps => size(word(line, 7)),
+        Reading::Gaps | Reading::Merge => size(word(line, 7)),
         _ => 0,
     }
 }

@@ -398,6 +398,21 @@ fn print_charge(e: Level3DecodeError) {
             kind(42, b"RowTooLong");
             words(b"65535 bins");
         }
+        _ => print_merge(e),
+    }
+}
+
+// 43 and 44: two receptions.
+fn print_merge(e: Level3DecodeError) {
+    match e {
+        Level3DecodeError::DifferentSweeps => {
+            kind(43, b"DifferentSweeps");
+            words(b"packet, counts, azimuths, range scale or gate figures of the bodies differ");
+        }
+        Level3DecodeError::RowsDisagree { radial } => {
+            kind(44, b"RowsDisagree");
+            size(b"rows of other codes in the bodies, at radial ", radial);
+        }
         _ => {}
     }
 }

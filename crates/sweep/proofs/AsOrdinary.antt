@@ -142,6 +142,14 @@ module _ (scheme : Scheme) (file : List ℕ) (clock : ℕ) (b : List ℕ) (na nc
         },
       )
 
+-- An accepted body is accepted with gaps, with none marked and the same picture, where the mark buffer is long enough.
+pub ordinary-whole : (scheme : Scheme) (file : List ℕ) (clock : ℕ) (b : List ℕ) (na nc np nm : ℕ) (p : Accepted) → sweepOf scheme file clock b na nc np ≡ accepted p → p .sweep .figures .«n_radials» ≤ nm
+    → (g : GapSweep) × (gapSweepOf scheme file clock b na nc np nm ≡ accepted g) × NoneMarked (g .sweep .figures) (g .marks) × SamePicture g p
+ordinary-whole scheme file clock b na nc np nm p acc room =
+    let w = whole scheme file clock b na nc np nm p acc room in
+    let u = unmarked scheme file clock b na nc np nm (w .0) (w .1) (w .2) in
+    (w .0, w .1, w .2, subst (SamePicture (w .0)) (one-value (sym (u .1) ∙ acc)) (u .2))
+
 -- The mark buffer is long enough for the picture, if there is one.
 pub as-ordinary : (scheme : Scheme) (file : List ℕ) (clock : ℕ) (b : List ℕ) (na nc np nm : ℕ)
     → ((p : Accepted) → sweepOf scheme file clock b na nc np ≡ accepted p → p .sweep .figures .«n_radials» ≤ nm) → AsOrdinary scheme file clock b na nc np nm

@@ -17,7 +17,8 @@ use Rattle.head.specs.Pdb.{pdbFields, Coherent}
 use Rattle.head.proofs.Coherence.{coherent}
 use Rattle.scale.specs.Physical.{scaleFields, declaredScale}
 use Rattle.scale.specs.declared.physical.Scheme.{Scheme}
-use Rattle.symbology.specs.Answers.{Picture, pictureOf, gapPictureOf}
+use Rattle.symbology.specs.Answers.{Picture, pictureOf, GapPicture, gapPictureOf}
+use Rattle.symbology.specs.Merge.{mergedOf}
 use Rattle.sweep.specs.declared.plan.Head.{Head}
 use Rattle.sweep.specs.declared.plan.HeadRead.the-variants as HeadRead
 use Rattle.sweep.specs.declared.sweep.Sweep.{Sweep}
@@ -25,9 +26,11 @@ use Rattle.sweep.specs.declared.sweep.SweepAnswer.{SweepAnswer}
 use Rattle.sweep.specs.declared.sweep.SweepAnswer.the-variants as SweepAnswer
 use Rattle.sweep.specs.Sweep.{headOf, headReadOf, allowed, roomFor, Accepted, finish, sweepOf, answerOf}
 use Rattle.sweep.specs.GapSweep.{GapSweep, gapFinish, gapSweepOf}
+use Rattle.sweep.specs.MergeSweep.{readied, mergeSweepOf}
 use Rattle.sweep.proofs.Reading.{given-in}
 use Rattle.sweep.proofs.CodeRuns as Ordinary
 use Rattle.sweep.proofs.GapCalls as Gaps
+use Rattle.sweep.proofs.MergeCalls as Merges
 use Rattle.sweep.proofs.plan.read_head as Head-read
 use Rattle.sweep.proofs.plan.read_head.Kinds as head-kinds
 use Rattle.sweep.proofs.plan.read_head.Reads as head-reads
@@ -66,15 +69,32 @@ sweep-coherent scheme file clock b na nc np p acc =
     through (pictureOf b) _ p e₁ λ q _ e₂.
     finished scheme file na nc np h q p e₂ (head-coherent scheme file clock h eh)
 
+-- the same with marks
+gap-finished : (scheme : Scheme) (file : List ℕ) (na nc np nm : ℕ) (h : Head) (q : GapPicture) (g : GapSweep) → gapFinish scheme file na nc np nm h q ≡ accepted g
+    → Coherent (h .fields) → Coherent (g .sweep .fields)
+unfolding gapFinish
+gap-finished scheme file na nc np nm h q g e good =
+    through (finish scheme file na nc np h (q .picture)) _ g e λ x ex e₁.
+    passed (ltb nm (q .picture .figures .«n_radials»)) _ _ g e₁ λ _ e₂.
+    subst (λ (x : GapSweep). Coherent (x .sweep .fields)) (one-value e₂) (finished scheme file na nc np h (q .picture) x ex good)
+
 pub gaps-coherent : (scheme : Scheme) (file : List ℕ) (clock : ℕ) (b : List ℕ) (na nc np nm : ℕ) (g : GapSweep) → gapSweepOf scheme file clock b na nc np nm ≡ accepted g
     → Coherent (g .sweep .fields)
-unfolding gapSweepOf gapFinish
+unfolding gapSweepOf
 gaps-coherent scheme file clock b na nc np nm g acc =
     through (headOf scheme file clock) _ g acc λ h eh e₁.
     through (gapPictureOf b) _ g e₁ λ q _ e₂.
-    through (finish scheme file na nc np h (q .picture)) _ g e₂ λ x ex e₃.
-    passed (ltb nm (q .picture .figures .«n_radials»)) _ _ g e₃ λ _ e₄.
-    subst (λ (x : GapSweep). Coherent (x .sweep .fields)) (one-value e₄) (finished scheme file na nc np h (q .picture) x ex (head-coherent scheme file clock h eh))
+    gap-finished scheme file na nc np nm h q g e₂ (head-coherent scheme file clock h eh)
+
+pub merge-coherent : (scheme : Scheme) (file : List ℕ) (clock : ℕ) (first second : List ℕ) (na nc np nm : ℕ) (g : GapSweep)
+    → mergeSweepOf scheme file clock first second na nc np nm ≡ accepted g → Coherent (g .sweep .fields)
+unfolding mergeSweepOf
+merge-coherent scheme file clock first second na nc np nm g acc =
+    through (headOf scheme file clock) _ g acc λ h eh e₁.
+    through (readied scheme h first) _ g e₁ λ a _ e₂.
+    through (readied scheme h second) _ g e₂ λ b _ e₃.
+    through (mergedOf a b) _ g e₃ λ q _ e₄.
+    gap-finished scheme file na nc np nm h q g e₄ (head-coherent scheme file clock h eh)
 
 -- ---- any call
 
@@ -98,3 +118,6 @@ call-sweep c allowed = handed-on (λ p. p .sweep) _ (sweep-coherent _ _ _ _ _ _ 
 
 pub call-gaps : (c : Gaps.Call) → Gaps.Allowed c → (s : Sweep) → c .answer ≡ SweepAnswer.Accepted s → Coherent (s .fields)
 call-gaps c allowed = handed-on (λ g. g .sweep) _ (gaps-coherent _ _ _ _ _ _ _ _) (c .answer) (allowed .answered)
+
+pub call-merge : (c : Merges.Call) → Merges.Allowed c → (s : Sweep) → c .answer ≡ SweepAnswer.Accepted s → Coherent (s .fields)
+call-merge c allowed = handed-on (λ g. g .sweep) _ (merge-coherent _ _ _ _ _ _ _ _ _) (c .answer) (allowed .answered)

@@ -110,11 +110,11 @@ module _ (scheme : Scheme) (file : List ℕ) (clock : ℕ) (b b' : List ℕ) (na
 
   makes : (r : ℕ) → r < n → Made (there r) ↔ RowInWords (p .sweep .figures .packet) bins (data' r)
   unfolding n bins there data'
-  makes r lt = rw (row-is (p .sweep .figures) b b' places (d .same-length) small r lt) at (radial-makes (p .sweep .figures) b b' places (d .same-length) small r lt)
+  makes r lt = rw (row-is (p .sweep .figures) b b' places r lt) at (radial-makes (p .sweep .figures) b b' places (d .same-length) small r lt)
 
   each : (r : ℕ) → r < n → getD rows r [] ≡ marked (there r)
   unfolding n bins rows there data'
-  each r lt = contained .each r (rw count-is lt) ∙ ap marked (row-is (p .sweep .figures) b b' places (d .same-length) small r lt)
+  each r lt = contained .each r (rw count-is lt) ∙ ap marked (row-is (p .sweep .figures) b b' places r lt)
 
   mark-at : (r : ℕ) → r < n → getD (map markOf rows) r 0 ≡ markOf (marked (there r))
   mark-at r lt = List·getD-map markOf rows r [] ∙ ap markOf (each r lt)
@@ -150,7 +150,7 @@ module _ (scheme : Scheme) (file : List ℕ) (clock : ℕ) (b b' : List ℕ) (na
 
   changed : (r : ℕ) → r < n → Changed symbology b b' r ↔ ChangedIn (p .sweep .figures .packet) b b' r
   unfolding n
-  changed r lt = radial-changed (p .sweep .figures) b b' places (d .same-length) small r lt
+  changed r lt = radial-changed (p .sweep .figures) b b' places r lt
 
   -- the data of an unchanged radial make the first's row
   same-data : (r : ℕ) → r < n → ¬ (ChangedIn (p .sweep .figures .packet) b b' r) → there r ≡ accepted (getD (q .body .rows) r [])

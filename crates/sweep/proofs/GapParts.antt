@@ -19,6 +19,7 @@ use Rattle.sweep.specs.Sweep.{headOf, allowed, roomFor, Accepted, finish
 use Rattle.sweep.specs.GapSweep.{GapSweep, gapFinish, gapSweepOf}
 use Rattle.sweep.specs.WithGaps.{NoneMarked}
 use Rattle.sweep.proofs.Blanking.{blanked-long}
+use Rattle.sweep.proofs.GapReading.{Sized}
 
 -- what stands after the body hands the picture on
 finished : (scheme : Scheme) (file : List ℕ) (na nc np : ℕ) (h : Head) (p : Picture) (x : Accepted) → finish scheme file na nc np h p ≡ accepted x
@@ -37,20 +38,17 @@ pub record GapSizes (g : GapSweep) : Type 0 where
   pub codes : length (g .codes) ≡ g .sweep .figures .«n_radials» * g .sweep .figures .«n_bins»
   pub physical : length (g .physical) ≡ g .sweep .figures .«n_radials» * g .sweep .figures .«n_bins»
 
-pub gap-sweep-sizes : (scheme : Scheme) (file : List ℕ) (clock : ℕ) (b : List ℕ) (na nc np nm : ℕ) (g : GapSweep) → gapSweepOf scheme file clock b na nc np nm ≡ accepted g → GapSizes g
-unfolding gapSweepOf gapFinish
-gap-sweep-sizes scheme file clock b na nc np nm g acc =
-    through (headOf scheme file clock) _ g acc λ h _ e₁.
-    through (gapPictureOf b) _ g e₁ λ p ep e₂.
-    through (finish scheme file na nc np h (p .picture)) _ g e₂ λ x ex e₃.
-    passed (ltb nm (p .picture .figures .«n_radials»)) _ _ g e₃ λ _ e₄.
-    let z = gap-sizes b p ep in
+pub finished-sizes : (scheme : Scheme) (file : List ℕ) (na nc np nm : ℕ) (h : Head) (p : GapPicture) (g : GapSweep) → gapFinish scheme file na nc np nm h p ≡ accepted g → Sized p → GapSizes g
+unfolding gapFinish
+finished-sizes scheme file na nc np nm h p g e z =
+    through (finish scheme file na nc np h (p .picture)) _ g e λ x ex e₁.
+    passed (ltb nm (p .picture .figures .«n_radials»)) _ _ g e₁ λ _ e₂.
     let w = finished scheme file na nc np h (p .picture) x ex in
     let n : x .sweep .figures .«n_radials» ≡ p .picture .figures .«n_radials» = ap (λ (f : Figures). f .«n_radials») (w .0) in
     let cells : x .sweep .figures .«n_radials» * x .sweep .figures .«n_bins» ≡ p .picture .figures .«n_radials» * p .picture .figures .«n_bins» =
     ap (λ (f : Figures). f .«n_radials» * f .«n_bins») (w .0) in
     let values : length (x .physical) ≡ p .picture .figures .«n_radials» * p .picture .figures .«n_bins» = ap length (w .2) ∙ length-map (p .picture .codes) _ ∙ z .1 in
-    subst GapSizes (one-value e₄)
+    subst GapSizes (one-value e₂)
     (record {
       marks = z .0 ∙ sym n;
       codes = ap length (w .1) ∙ z .1 ∙ sym cells;
@@ -58,6 +56,13 @@ gap-sweep-sizes scheme file clock b na nc np nm g acc =
           blanked-long (p .picture .figures .«n_bins») (p .marks) (x .physical) (values ∙ ap (λ k. k * p .picture .figures .«n_bins») (sym (z .0)))
           ∙ values ∙ sym cells;
     })
+
+pub gap-sweep-sizes : (scheme : Scheme) (file : List ℕ) (clock : ℕ) (b : List ℕ) (na nc np nm : ℕ) (g : GapSweep) → gapSweepOf scheme file clock b na nc np nm ≡ accepted g → GapSizes g
+unfolding gapSweepOf
+gap-sweep-sizes scheme file clock b na nc np nm g acc =
+    through (headOf scheme file clock) _ g acc λ h _ e₁.
+    through (gapPictureOf b) _ g e₁ λ p ep e₂.
+    finished-sizes scheme file na nc np nm h p g e₂ (gap-sizes b p ep)
 
 -- where no radial is marked, no place is
 pub none-marked : (f : Figures) (marks : List ℕ) → length marks ≡ f .«n_radials» → NoneMarked f marks → (r : ℕ) → getD marks r 0 ≡ 0

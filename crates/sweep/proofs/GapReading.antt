@@ -1,11 +1,12 @@
--- The sweep reading with gaps by way of symbology's entry, a law for each answer of the code. Assumes nothing.
+-- A sweep reading with gaps by way of symbology's entry, a law for each answer of the code. Assumes nothing.
 use Prim.Native.Nat.{ℕ, _*_, _≤_}
 use mathlib.Core.List.{List, [], _∷_, map, _++_}
 use mathlib.Core.Bool.{Bool, true, false, not}
 use mathlib.Core.Path.{_≡_, refl, sym, ap, subst, _∙_}
 use lib.Dec.{ltb}
 use native.Mathlib.Omega.{arith}
-use lib.ListN.{length, take, drop, length-map, length-append}
+use lib.ListN.{length, take, drop, length-map, length-append, length-drop}
+use lib.Seq.{length-take-le}
 use lib.Ieee.{Float}
 use borrow.Author.Tests.{ltb-false}
 use Rattle.bytes.specs.declared.error.Level3DecodeError.{Level3DecodeError}
@@ -16,17 +17,18 @@ use Rattle.scale.specs.Physical.{scaleFields, declaredScale, physicalOf, fillOf
 use Rattle.scale.specs.declared.physical.Declared.{Declared}
 use Rattle.scale.specs.declared.physical.Scaling.{Scaling}
 use Rattle.scale.specs.declared.physical.Scheme.{Scheme}
-use Rattle.symbology.specs.Answers.{GapPicture, gapPictureOf, tooFew, roomIn, admit, gapDecodeFor, gapFiguresIn, figuresOf, DecodesWithGaps}
+use Rattle.symbology.specs.Answers.{GapPicture, gapPictureOf, tooFew, roomIn, admit, gapsOnTerms, gapDecodeFor, gapFiguresIn, figuresOf, DecodesWithGaps}
 use Rattle.symbology.specs.declared.figures.Figures.{Figures}
 use Rattle.symbology.specs.declared.figures.FiguresRead.{FiguresRead}
 use Rattle.symbology.specs.declared.figures.FiguresRead.the-variants as FiguresRead
 use Rattle.symbology.specs.declared.figures.Terms.{Terms}
 use Rattle.sweep.specs.declared.plan.Head.{Head}
+use Rattle.sweep.specs.declared.sweep.Sweep.{Sweep}
 use Rattle.sweep.specs.declared.sweep.SweepAnswer.{SweepAnswer}
 use Rattle.sweep.specs.declared.sweep.SweepAnswer.the-variants as SweepAnswer
-use Rattle.bytes.proofs.Results.{clash, one-value, through, passed}
+use Rattle.bytes.proofs.Results.{clash, one-value, one-refusal, through, passed}
 use Rattle.sweep.specs.Sweep.{headOf, allowed, roomFor, finish, answerOf, sweepWith, termsFor}
-use Rattle.sweep.specs.GapSweep.{GapSweep, blanked, gapFinish, gapSweepOf, gapSweepIn, gapBuffers, GapRan}
+use Rattle.sweep.specs.GapSweep.{GapSweep, blanked, blankedLent, gapFinish, gapSweepOf, gapSweepIn, gapBuffers, MarkedRan}
 use Rattle.symbology.proofs.GapRows.{gap-sizes}
 use Rattle.sweep.proofs.Parts.{block-start}
 use Rattle.sweep.proofs.Reading.{asked-is, step-declared, swept, refused-in, given-in, front-is, Admitted, admitted, fills}
@@ -75,115 +77,117 @@ module _ (scheme : Scheme) (file : List ℕ) (h : Head) (na nc np nm : ℕ) wher
 
 -- ---- a picture that was read
 
--- what is known once a body was read on the terms of a scaling
-pub record Drawn (s : Scaling) (d : Result Declared) (body : List ℕ) (na nc np nm : ℕ) (f : Figures) : Type 0 where
+-- as many marks and codes as the figures say
+abbrev pub Sized : GapPicture → Type 0
+Sized p = (length (p .marks) ≡ p .picture .figures .«n_radials») × (length (p .picture .codes) ≡ p .picture .figures .«n_radials» * p .picture .figures .«n_bins»)
+
+-- what is known once a picture was made on the terms of a scaling
+pub record Drawn (d : Result Declared) (decoded : Result GapPicture) (nc np nm : ℕ) (f : Figures) : Type 0 where
   pub picture : GapPicture
-  pub is : gapDecodeFor (termsFor s np) body na nc nm ≡ accepted picture
+  pub is : decoded ≡ accepted picture
   pub figures : picture .picture .figures ≡ f
   pub sizes : (length (picture .marks) ≡ f .«n_radials») × (length (picture .picture .codes) ≡ f .«n_radials» * f .«n_bins»)
   pub admitted : Admitted d nc np f
   pub marks-room : f .«n_radials» ≤ nm
 
-drawn : (s : Scaling) (d : Result Declared) → d ≡ declaredScale s → (body : List ℕ) (na nc np nm : ℕ) {f : Figures}
-    → accepted f ≡ gapFiguresIn (gapDecodeFor (termsFor s np) body na nc nm) → Drawn s d body na nc np nm f
-unfolding gapDecodeFor
-drawn s d is body na nc np nm {f} e =
-    let g = given-in (λ (p : GapPicture). p .picture .figures) (gapDecodeFor (termsFor s np) body na nc nm) e in
+drawn : (s : Scaling) (d : Result Declared) → d ≡ declaredScale s → (made : Result GapPicture) → ((p : GapPicture) → made ≡ accepted p → Sized p) → (na nc np nm : ℕ) {f : Figures}
+    → accepted f ≡ gapFiguresIn (gapsOnTerms (termsFor s np) made na nc nm) → Drawn d (gapsOnTerms (termsFor s np) made na nc nm) nc np nm f
+unfolding gapsOnTerms
+drawn s d is made sized na nc np nm {f} e =
+    let g = given-in (λ (p : GapPicture). p .picture .figures) (gapsOnTerms (termsFor s np) made na nc nm) e in
     let p = g .0 in
-    through (gapPictureOf body) _ p (g .1) λ q eq e₁.
+    through made _ p (g .1) λ q eq e₁.
     through (admit (termsFor s np) na nc (q .picture .figures)) _ p e₁ λ u ea e₂.
     passed (ltb nm (q .picture .figures .«n_radials»)) _ _ p e₂ λ k e₃.
     let same = one-value e₃ in
-    subst (Drawn s d body na nc np nm) (ap (λ (x : GapPicture). x .picture .figures) same ∙ g .2)
+    subst (Drawn d (gapsOnTerms (termsFor s np) made na nc nm) nc np nm) (ap (λ (x : GapPicture). x .picture .figures) same ∙ g .2)
     (record {
       picture = q;
       is = g .1 ∙ ap accepted (sym same);
       figures = refl;
-      sizes = gap-sizes body q eq;
+      sizes = sized q eq;
       admitted = admitted s d is na nc np (q .picture .figures) ea;
       marks-room = ltb-false _ _ k;
     })
 
 -- ---- the answers
 
-module _ (scheme : Scheme) (file : List ℕ) (clock : ℕ) (body : List ℕ) (az : List Float) (cs : List ℕ) (ph : List Float) (ms : List ℕ) where
-  abbrev Reads : SweepAnswer → List Float → List ℕ → List Float → List ℕ → Type 0
-  Reads r az' cs' ph' ms' = GapRan scheme file clock body (gapBuffers az cs ph ms) (gapBuffers az' cs' ph' ms') r
+-- what the code says and leaves, by a result
+pub told : {d G : Result GapSweep} (az : List Float) (cs : List ℕ) (ph : List Float) (ms : List ℕ) {r : SweepAnswer} {az' : List Float} {cs' : List ℕ} {ph' : List Float} {ms' : List ℕ}
+    → d ≡ G → answerOf r ≡ gapSweepIn d
+    → az' ≡ lent d (λ p. p .azimuths) az → cs' ≡ lent d (λ p. p .codes) cs → ph' ≡ lent d (λ p. p .physical) ph → ms' ≡ lent d (λ p. p .marks) ms
+    → MarkedRan G (gapBuffers az cs ph ms) (gapBuffers az' cs' ph' ms') r
+told az cs ph ms e i a c v m =
+    record {
+      answered = i ∙ ap gapSweepIn e;
+      azimuths = a ∙ ap (λ d. lent d (λ p. p .azimuths) az) e;
+      codes = c ∙ ap (λ d. lent d (λ p. p .codes) cs) e;
+      physical = v ∙ ap (λ d. lent d (λ p. p .physical) ph) e;
+      marks = m ∙ ap (λ d. lent d (λ p. p .marks) ms) e;
+    }
 
-  -- the reading with gaps with these buffers
-  abbrev G : Result GapSweep
-  G = gapSweepOf scheme file clock body (length az) (length cs) (length ph) (length ms)
-
-  -- what the code says and leaves, by a result
-  told : {d : Result GapSweep} {r : SweepAnswer} {az' : List Float} {cs' : List ℕ} {ph' : List Float} {ms' : List ℕ} → d ≡ G → answerOf r ≡ gapSweepIn d
-      → az' ≡ lent d (λ p. p .azimuths) az → cs' ≡ lent d (λ p. p .codes) cs → ph' ≡ lent d (λ p. p .physical) ph → ms' ≡ lent d (λ p. p .marks) ms
-      → Reads r az' cs' ph' ms'
-  told e i a c v m =
-      record {
-        answered = i ∙ ap gapSweepIn e;
-        azimuths = a ∙ ap (λ d. lent d (λ p. p .azimuths) az) e;
-        codes = c ∙ ap (λ d. lent d (λ p. p .codes) cs) e;
-        physical = v ∙ ap (λ d. lent d (λ p. p .physical) ph) e;
-        marks = m ∙ ap (λ d. lent d (λ p. p .marks) ms) e;
-      }
-
-  pub head-refused : {x : Level3DecodeError} → refused (refusalOf x) ≡ headOf scheme file clock → Reads (SweepAnswer.Refused x) az cs ph ms
-  unfolding gapSweepOf
-  head-refused {x} e = let d : refused (refusalOf x) ≡ G = rw (← e) in told d refl refl refl refl refl
-
-  -- the head is read, the terms are made of it, and the body is read on them
-  module _ (h : Head) (d : Result Declared) (t : Terms) (eh : accepted h ≡ headOf scheme file clock) (ed : d ≡ declaredScale (h .scaling))
-      (et : t ≡ termsFor (h .scaling) (length ph)) where
-    abbrev D : Result GapPicture
-    D = gapDecodeFor t body (length az) (length cs) (length ms)
-
-    by-decode : G ≡ then D λ p. then d λ declared. accepted (shown scheme file h p declared)
-    unfolding gapSweepOf gapDecodeFor
-    by-decode = rw (← eh, et) (by (gapPictureOf body))
-      where
-        by : (z : Result GapPicture)
-            → then z (gapFinish scheme file (length az) (length cs) (length ph) (length ms) h)
-            ≡ then (then z λ p. then (admit (termsFor (h .scaling) (length ph)) (length az) (length cs) (p .picture .figures)) λ _. refuse (ltb (length ms) (p .picture .figures .«n_radials»)) short (accepted p))
-            λ p. then d λ declared. accepted (shown scheme file h p declared)
-        by (accepted p) = finish-is scheme file h (length az) (length cs) (length ph) (length ms) d ed (block-start scheme file clock h (sym eh) .3) p
-        by (refused x) = refl
-
-    pub body-refused : {x : Level3DecodeError} {r : FiguresRead} {az' : List Float} {cs' ms' : List ℕ} → r ≡ FiguresRead.Refused x
-        → DecodesWithGaps (gapDecodeFor t body) az az' cs cs' ms ms' r → Reads (SweepAnswer.Refused x) az' cs' ph ms'
-    body-refused {x} is w =
-        let z = refused-in (λ (p : GapPicture). p .picture .figures) D (ap figuresOf (sym is) ∙ w .answered) in
-        let r : refused (refusalOf x) ≡ G = sym (by-decode ∙ rw z) in
-        told r refl (w .azimuths ∙ ap (λ d. lent d (λ p. p .picture .azimuths) az) z) (w .codes ∙ ap (λ d. lent d (λ p. p .picture .codes) cs) z) refl
-        (w .marks ∙ ap (λ d. lent d (λ p. p .marks) ms) z)
-
--- ---- after symbology's entry has accepted
-
--- The head h was read, the declared scale d and the terms t made of it, and the body read on them: it has the figures f.
-pub record Decoded (scheme : Scheme) (file : List ℕ) (clock : ℕ) (body : List ℕ) (az : List Float) (cs : List ℕ) (ph : List Float) (ms : List ℕ) (h : Head) (d : Result Declared) (t : Terms) (f : Figures)
+-- The head h was read, the declared scale d and the terms t made of it. `made` is the picture of the bodies, `decode` symbology's reading of
+-- them on the terms, by buffers of so many places, and G the whole with the buffers az, cs, ph and ms.
+pub record Begun (scheme : Scheme) (file : List ℕ) (clock : ℕ) (G : Result GapSweep) (decode : ℕ → ℕ → ℕ → Result GapPicture) (az : List Float) (cs : List ℕ) (ph : List Float) (ms : List ℕ) (h : Head) (d : Result Declared)
     : Type 0 where
   pub head-is : accepted h ≡ headOf scheme file clock
   pub declared-is : d ≡ declaredScale (h .scaling)
-  pub terms-are : t ≡ termsFor (h .scaling) (length ph)
-  pub figures-are : accepted f ≡ gapFiguresIn (gapDecodeFor t body (length az) (length cs) (length ms))
+  pub made : Result GapPicture
+  pub sized : (p : GapPicture) → made ≡ accepted p → Sized p
+  pub decode-is : decode (length az) (length cs) (length ms) ≡ gapsOnTerms (termsFor (h .scaling) (length ph)) made (length az) (length cs) (length ms)
+  pub reading-is : G ≡ then made (gapFinish scheme file (length az) (length cs) (length ph) (length ms) h)
 
-module _ {scheme : Scheme} {file : List ℕ} {clock : ℕ} {body : List ℕ} {az : List Float} {cs : List ℕ} {ph : List Float} {ms : List ℕ} {h : Head} {d : Result Declared} {t : Terms} {f : Figures}
-    (w : Decoded scheme file clock body az cs ph ms h d t f) where
-  pub drawn-here : Drawn (h .scaling) d body (length az) (length cs) (length ph) (length ms) f
+module _ {scheme : Scheme} {file : List ℕ} {clock : ℕ} {G : Result GapSweep} {decode : ℕ → ℕ → ℕ → Result GapPicture} {az : List Float} {cs : List ℕ} {ph : List Float} {ms : List ℕ} {h : Head} {d : Result Declared}
+    (w : Begun scheme file clock G decode az cs ph ms h d) where
+  by-decode : G ≡ then (decode (length az) (length cs) (length ms)) λ p. then d λ declared. accepted (shown scheme file h p declared)
+  unfolding gapsOnTerms
+  by-decode = w .reading-is ∙ by (w .made) ∙ sym (ap (λ z. then z λ p. then d λ declared. accepted (shown scheme file h p declared)) (w .decode-is))
+    where
+      by : (z : Result GapPicture)
+          → then z (gapFinish scheme file (length az) (length cs) (length ph) (length ms) h)
+          ≡ then (then z λ p. then (admit (termsFor (h .scaling) (length ph)) (length az) (length cs) (p .picture .figures)) λ _. refuse (ltb (length ms) (p .picture .figures .«n_radials»)) short (accepted p))
+          λ p. then d λ declared. accepted (shown scheme file h p declared)
+      by (accepted p) = finish-is scheme file h (length az) (length cs) (length ph) (length ms) d (w .declared-is) (block-start scheme file clock h (sym (w .head-is)) .3) p
+      by (refused x) = refl
+
+  pub body-refused : {x : Level3DecodeError} {r : FiguresRead} {az' : List Float} {cs' ms' : List ℕ} → r ≡ FiguresRead.Refused x
+      → DecodesWithGaps decode az az' cs cs' ms ms' r → MarkedRan G (gapBuffers az cs ph ms) (gapBuffers az' cs' ph ms') (SweepAnswer.Refused x)
+  body-refused {x} is k =
+      let z = refused-in (λ (p : GapPicture). p .picture .figures) (decode (length az) (length cs) (length ms)) (ap figuresOf (sym is) ∙ k .answered) in
+      let r : refused (refusalOf x) ≡ G = sym (by-decode ∙ rw z) in
+      told az cs ph ms r refl (k .azimuths ∙ ap (λ d. lent d (λ p. p .picture .azimuths) az) z) (k .codes ∙ ap (λ d. lent d (λ p. p .picture .codes) cs) z) refl
+      (k .marks ∙ ap (λ d. lent d (λ p. p .marks) ms) z)
+
+-- ---- after symbology's entry has accepted, with the figures f
+
+pub record Decoded (scheme : Scheme) (file : List ℕ) (clock : ℕ) (G : Result GapSweep) (decode : ℕ → ℕ → ℕ → Result GapPicture) (az : List Float) (cs : List ℕ) (ph : List Float) (ms : List ℕ) (h : Head) (d : Result Declared) (f : Figures)
+    : Type 0 where
+  pub begun : Begun scheme file clock G decode az cs ph ms h d
+  pub figures-are : accepted f ≡ gapFiguresIn (decode (length az) (length cs) (length ms))
+
+module _ {scheme : Scheme} {file : List ℕ} {clock : ℕ} {G : Result GapSweep} {decode : ℕ → ℕ → ℕ → Result GapPicture} {az : List Float} {cs : List ℕ} {ph : List Float} {ms : List ℕ} {h : Head} {d : Result Declared} {f : Figures}
+    (w : Decoded scheme file clock G decode az cs ph ms h d f) where
+  drawn-here : Drawn d (decode (length az) (length cs) (length ms)) (length cs) (length ph) (length ms) f
   drawn-here =
-      drawn (h .scaling) d (w .declared-is) body (length az) (length cs) (length ph) (length ms)
-      (w .figures-are ∙ ap (λ x. gapFiguresIn (gapDecodeFor x body (length az) (length cs) (length ms))) (w .terms-are))
-
-  drawn-is : gapDecodeFor t body (length az) (length cs) (length ms) ≡ accepted (drawn-here .picture)
-  drawn-is = ap (λ x. gapDecodeFor x body (length az) (length cs) (length ms)) (w .terms-are) ∙ drawn-here .is
+      subst (λ z. Drawn d z (length cs) (length ph) (length ms) f) (sym (w .begun .decode-is))
+      (drawn (h .scaling) d (w .begun .declared-is) (w .begun .made) (w .begun .sized) (length az) (length cs) (length ph) (length ms) (w .figures-are ∙ ap gapFiguresIn (w .begun .decode-is)))
 
   -- the buffers of codes and marks then hold cs' and ms'
-  module _ {cs' ms' : List ℕ} (c : cs' ≡ lent (gapDecodeFor t body (length az) (length cs) (length ms)) (λ p. p .picture .codes) cs)
-      (m : ms' ≡ lent (gapDecodeFor t body (length az) (length cs) (length ms)) (λ p. p .marks) ms) where
+  module _ {cs' ms' : List ℕ} (c : cs' ≡ lent (decode (length az) (length cs) (length ms)) (λ p. p .picture .codes) cs)
+      (m : ms' ≡ lent (decode (length az) (length cs) (length ms)) (λ p. p .marks) ms) where
     now-codes : cs' ≡ drawn-here .picture .picture .codes ++ drop (length (drawn-here .picture .picture .codes)) cs
-    now-codes = c ∙ ap (λ r. lent r (λ p. p .picture .codes) cs) drawn-is
+    now-codes = c ∙ ap (λ r. lent r (λ p. p .picture .codes) cs) (drawn-here .is)
 
     now-marks : ms' ≡ drawn-here .picture .marks ++ drop (length (drawn-here .picture .marks)) ms
-    now-marks = m ∙ ap (λ r. lent r (λ p. p .marks) ms) drawn-is
+    now-marks = m ∙ ap (λ r. lent r (λ p. p .marks) ms) (drawn-here .is)
+
+    -- there is room for the values
+    pub rooms : (f .«n_radials» * f .«n_bins» ≤ length cs') × (f .«n_radials» ≤ length ms') × (f .«n_radials» * f .«n_bins» ≤ length ph)
+    rooms = (
+      omega (arith, ap length now-codes, length-append (drawn-here .picture .picture .codes) (drop (length (drawn-here .picture .picture .codes)) cs), drawn-here .sizes .1),
+      omega (arith, ap length now-marks, length-append (drawn-here .picture .marks) (drop (length (drawn-here .picture .marks)) ms), drawn-here .sizes .0),
+      drawn-here .admitted .physical-room,
+    )
 
     -- the values of its front, which are the cells of the picture
     abbrev Fill : Result (List Float)
@@ -206,36 +210,76 @@ module _ {scheme : Scheme} {file : List ℕ} {clock : ℕ} {body : List ℕ} {az
     unfolding values
     filled =
         ap (λ l. fillOf scheme file (h .block) l (length ph)) same-codes
-        ∙ fills scheme file clock h (sym (w .head-is)) (drawn-here .picture .picture .codes) (length ph) (rw (drawn-here .sizes .1) (drawn-here .admitted .physical-room))
+        ∙ fills scheme file clock h (sym (w .begun .head-is)) (drawn-here .picture .picture .codes) (length ph) (rw (drawn-here .sizes .1) (drawn-here .admitted .physical-room))
 
-    -- an answer of the code that can't be
-    pub fill-accepts : {C : Type 0} {x : Refusal} → _≡_ {A = Result (Unit {0})} (refused x) (then Fill λ _. accepted tt) → C
-    fill-accepts {C} {x} e = clash tt x (e ∙ ap {B = Result (Unit {0})} (λ r. then r λ _. accepted tt) filled)
-
-    -- there is a row of values for each mark
-    pub blank-room : {ph' : List Float} → ph' ≡ lent Fill (λ values. values) ph → length (take (f .«n_radials») ms') * f .«n_bins» ≤ length ph'
-    blank-room v =
-        let p = v ∙ ap (λ r. lent r (λ values. values) ph) filled in
-        let e : length (take (f .«n_radials») ms') * f .«n_bins» ≡ length values =
-        ap (λ (l : List ℕ). length l * f .«n_bins») same-marks ∙ ap (λ n. n * f .«n_bins») (drawn-here .sizes .0) ∙ sym values-long in
-        omega (arith, e, ap length p, length-append values (drop (length values) ph))
-
-    pub read : {r : SweepAnswer} {az' ph' ph'' : List Float} → answerOf r ≡ sweepWith h d f
-        → az' ≡ lent (gapDecodeFor t body (length az) (length cs) (length ms)) (λ p. p .picture .azimuths) az → ph' ≡ lent Fill (λ values. values) ph
-        → ph'' ≡ blanked (f .«n_bins») (take (f .«n_radials») ms') ph' → Reads scheme file clock body az cs ph ms r az' cs' ph'' ms'
+    pub read : {r : SweepAnswer} {az' ph' : List Float} → answerOf r ≡ then Fill (λ _. sweepWith h d f)
+        → az' ≡ lent (decode (length az) (length cs) (length ms)) (λ p. p .picture .azimuths) az
+        → ph' ≡ blankedLent Fill (f .«n_bins») (take (f .«n_radials») ms') ph → MarkedRan G (gapBuffers az cs ph ms) (gapBuffers az' cs' ph' ms') r
     unfolding values
-    read {r} {az'} {ph'} i a v b =
+    read i a v =
         let is = drawn-here .admitted .declares in
-        let r : accepted (shown scheme file h (drawn-here .picture) (drawn-here .admitted .declared)) ≡ G scheme file clock body az cs ph ms =
-        sym (by-decode scheme file clock body az cs ph ms h d t (w .head-is) (w .declared-is) (w .terms-are)
-        ∙ ap (λ z. then z λ p. then d λ declared. accepted (shown scheme file h p declared)) drawn-is
+        let r : accepted (shown scheme file h (drawn-here .picture) (drawn-here .admitted .declared)) ≡ G =
+        sym (by-decode (w .begun)
+        ∙ ap (λ z. then z λ p. then d λ declared. accepted (shown scheme file h p declared)) (drawn-here .is)
         ∙ ap (λ y. then y λ declared. accepted (shown scheme file h (drawn-here .picture) declared)) is) in
         let e : length values ≡ length (drawn-here .picture .marks) * f .«n_bins» = values-long ∙ ap (λ n. n * f .«n_bins») (sym (drawn-here .sizes .0)) in
         let bins : f .«n_bins» ≡ drawn-here .picture .picture .figures .«n_bins» = ap (λ (g : Figures). g .«n_bins») (sym (drawn-here .figures)) in
         let laid =
-        b ∙ ap (λ l. blanked (f .«n_bins») l ph') same-marks ∙ ap (blanked (f .«n_bins») (drawn-here .picture .marks)) (v ∙ ap (λ r. lent r (λ values. values) ph) filled)
+        v ∙ ap (λ l. blankedLent Fill (f .«n_bins») l ph) same-marks ∙ ap (λ z. blankedLent z (f .«n_bins») (drawn-here .picture .marks) ph) filled
         ∙ blanked-lent (f .«n_bins») (drawn-here .picture .marks) values ph e
         ∙ ap (λ (k : ℕ). blanked k (drawn-here .picture .marks) values ++ drop (length (blanked k (drawn-here .picture .marks) values)) ph) bins in
-        told scheme file clock body az cs ph ms r
-        (i ∙ ap (λ y. sweepWith h y f) is ∙ ap (sweepWith h (accepted (drawn-here .admitted .declared))) (sym (drawn-here .figures)))
-        (a ∙ ap (λ r. lent r (λ p. p .picture .azimuths) az) drawn-is) now-codes laid now-marks
+        told az cs ph ms r
+        (i ∙ ap (λ z. then z λ _. sweepWith h d f) filled ∙ ap (λ y. sweepWith h y f) is ∙ ap (sweepWith h (accepted (drawn-here .admitted .declared))) (sym (drawn-here .figures)))
+        (a ∙ ap (λ r. lent r (λ p. p .picture .azimuths) az) (drawn-here .is)) now-codes laid now-marks
+
+-- ---- the values, once the code has filled them
+
+-- there is a row of them for each mark
+pub values-room : (fill : Result (List Float)) (ph : List Float) (n bins : ℕ) (ms : List ℕ) {ph' : List Float} → ph' ≡ lent fill (λ values. values) ph → n ≤ length ms → n * bins ≤ length ph
+    → length (take n ms) * bins ≤ length ph'
+values-room fill ph n bins ms {ph'} v m h = rw (length-take-le n ms m, v) (by fill)
+  where
+    by : (z : Result (List Float)) → n * bins ≤ length (lent z (λ values. values) ph)
+    by (accepted values) = omega (arith, h, length-append values (drop (length values) ph), length-drop (length values) ph)
+    by (refused x) = h
+
+module _ (fill : Result (List Float)) (answer : Result Sweep) where
+  pub not-filled : {x : Refusal} (bins : ℕ) (marks : List ℕ) (ph : List Float) {ph' : List Float} → _≡_ {A = Result (Unit {0})} (refused x) (then fill λ _. accepted tt) → ph' ≡ lent fill (λ values. values) ph
+      → (refused x ≡ then fill λ _. answer) × (ph' ≡ blankedLent fill bins marks ph)
+  not-filled {x} bins marks ph {ph'} e v = by fill e v
+    where
+      by : (z : Result (List Float)) → _≡_ {A = Result (Unit {0})} (refused x) (then z λ _. accepted tt) → ph' ≡ lent z (λ values. values) ph → (refused x ≡ then z λ _. answer) × (ph' ≡ blankedLent z bins marks ph)
+      by (accepted values) e v = clash tt x e
+      by (refused y) e v = (ap refused (one-refusal e), v)
+
+  pub was-filled : (bins : ℕ) (marks : List ℕ) (ph : List Float) {ph' ph'' : List Float} {r : Result Sweep} → _≡_ {A = Result (Unit {0})} (accepted tt) (then fill λ _. accepted tt) → ph' ≡ lent fill (λ values. values) ph
+      → ph'' ≡ blanked bins marks ph' → r ≡ answer → (r ≡ then fill λ _. answer) × (ph'' ≡ blankedLent fill bins marks ph)
+  was-filled bins marks ph {ph'} {ph''} {r} e v b i = by fill e v
+    where
+      by : (z : Result (List Float)) → _≡_ {A = Result (Unit {0})} (accepted tt) (then z λ _. accepted tt) → ph' ≡ lent z (λ values. values) ph → (r ≡ then z λ _. answer) × (ph'' ≡ blankedLent z bins marks ph)
+      by (accepted values) e v = (i, b ∙ ap (blanked bins marks) v)
+      by (refused y) e v = clash tt y (sym e)
+
+-- ---- one body
+
+module _ (scheme : Scheme) (file : List ℕ) (clock : ℕ) (body : List ℕ) (az : List Float) (cs : List ℕ) (ph : List Float) (ms : List ℕ) where
+  -- the reading with gaps with these buffers
+  abbrev G : Result GapSweep
+  G = gapSweepOf scheme file clock body (length az) (length cs) (length ph) (length ms)
+
+  pub head-refused : {x : Level3DecodeError} → refused (refusalOf x) ≡ headOf scheme file clock → MarkedRan G (gapBuffers az cs ph ms) (gapBuffers az cs ph ms) (SweepAnswer.Refused x)
+  unfolding gapSweepOf
+  head-refused {x} e = let d : refused (refusalOf x) ≡ G = rw (← e) in told az cs ph ms d refl refl refl refl refl
+
+  pub begun : (h : Head) {t : Terms} → accepted h ≡ headOf scheme file clock → t ≡ termsFor (h .scaling) (length ph)
+      → Begun scheme file clock G (gapDecodeFor t body) az cs ph ms h (declaredScale (h .scaling))
+  unfolding gapSweepOf gapDecodeFor
+  begun h eh et =
+      record {
+        head-is = eh;
+        declared-is = refl;
+        made = gapPictureOf body;
+        sized = gap-sizes body;
+        decode-is = ap (λ x. gapsOnTerms x (gapPictureOf body) (length az) (length cs) (length ms)) et;
+        reading-is = rw (← eh) refl;
+      }

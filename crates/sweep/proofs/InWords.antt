@@ -62,7 +62,7 @@ pub record ContainedInWords (f : Figures) (b b' : List ℕ) (g : Given Sweep) : 
       × ((r : ℕ) → r < f .«n_radials» → ChangedIn (f .packet) b b' r → rowOf (f .packet) (f .«n_bins») r (dataOf (f .packet) b r b') ≡ accepted (getD (g' .rows) r []))
 
 -- one radial
-module _ (f : Figures) (b b' : List ℕ) (q : Placed b f) (long : length b' ≡ length b) (small : Bytes b') (r : ℕ) (lt : r < f .«n_radials») where
+module _ (f : Figures) (b b' : List ℕ) (q : Placed b f) (r : ℕ) (lt : r < f .«n_radials») where
   pub radial-changed : Changed symbology b b' r ↔ ChangedIn (f .packet) b b' r
   radial-changed = changed-in-words b f q r lt b'
 
@@ -70,6 +70,7 @@ module _ (f : Figures) (b b' : List ℕ) (q : Placed b f) (long : length b' ≡ 
   unfolding rowIn dataIn
   row-is = rw (q .rows r lt) (ap (rowOf (f .packet) (f .«n_bins») r) (data-in-words b f q r lt b'))
 
+module _ (f : Figures) (b b' : List ℕ) (q : Placed b f) (long : length b' ≡ length b) (small : Bytes b') (r : ℕ) (lt : r < f .«n_radials») where
   -- its data in the second body are as many
   second-count : length (dataOf (f .packet) b r b') ≡ radialAt symbology b r .count
   unfolding dataIn
@@ -82,11 +83,11 @@ module _ (f : Figures) (b b' : List ℕ) (q : Placed b f) (long : length b' ≡ 
   second-bytes = let d = dataPlace (f .packet) b r in bits-slice 8 (d .0) (d .0 + d .1) b' small
 
   pub radial-makes : MakesRow symbology b b' r ↔ RowInWords (f .packet) (f .«n_bins») (dataOf (f .packet) b r b')
-  radial-makes = rw row-is (row-in-words (f .packet) (f .«n_bins») r (dataOf (f .packet) b r b') (rw second-count (q .enough r lt)) second-bytes)
+  radial-makes = rw (row-is f b b' q r lt) (row-in-words (f .packet) (f .«n_bins») r (dataOf (f .packet) b r b') (rw second-count (q .enough r lt)) second-bytes)
 
 module _ (f : Figures) (b b' : List ℕ) (g : Given Sweep) (q : Placed b f) (long : length b' ≡ length b) (small : Bytes b') (c : Contained symbology b b' g) where
   changed : (r : ℕ) → r < f .«n_radials» → Changed symbology b b' r ↔ ChangedIn (f .packet) b b' r
-  changed = radial-changed f b b' q long small
+  changed = radial-changed f b b' q
 
   makes : (r : ℕ) → r < f .«n_radials» → MakesRow symbology b b' r ↔ RowInWords (f .packet) (f .«n_bins») (dataOf (f .packet) b r b')
   makes = radial-makes f b b' q long small
@@ -102,10 +103,10 @@ module _ (f : Figures) (b b' : List ℕ) (g : Given Sweep) (q : Placed b f) (lon
       → (x : Refusal) × (run symbology b' 0 ≡ refused x)
       × (rowOf (f .packet) (f .«n_bins») r (dataOf (f .packet) b r b') ≡ refused x)
       × Names (f .packet) (f .«n_bins») r (dataOf (f .packet) b r b') x
-  lowest r l (accepted codes) e = absurd (l .no-row (makes r (l .inside) .0 (codes, row-is f b b' q long small r (l .inside) ∙ e)))
+  lowest r l (accepted codes) e = absurd (l .no-row (makes r (l .inside) .0 (codes, row-is f b b' q r (l .inside) ∙ e)))
   lowest r l (refused x) e = (
     x,
-    c .lowest r x (rw (q .count) (l .inside)) (changed r (l .inside) .1 (l .changed)) (row-is f b b' q long small r (l .inside) ∙ e) lower,
+    c .lowest r x (rw (q .count) (l .inside)) (changed r (l .inside) .1 (l .changed)) (row-is f b b' q r (l .inside) ∙ e) lower,
     e,
     names _ _ r _ x e,
   )
@@ -127,7 +128,7 @@ module _ (f : Figures) (b b' : List ℕ) (g : Given Sweep) (q : Placed b f) (lon
               o .1,
               o .2,
               (λ r lt u. o .5 r (rw (q .count) lt) (λ h. u (changed r lt .0 h))),
-              λ r lt h. sym (row-is f b b' q long small r lt) ∙ o .6 r (rw (q .count) lt) (changed r lt .1 h),
+              λ r lt h. sym (row-is f b b' q r lt) ∙ o .6 r (rw (q .count) lt) (changed r lt .1 h),
             );
       }
 

@@ -56,7 +56,8 @@ module _ (scheme : Scheme) (file : List ℕ) (clock : ℕ) (na nc np : ℕ) wher
     pub azimuths : body .value .azimuths ≡ p .azimuths
     pub codes : joined (body .rows) ≡ p .codes
     pub physical : p .physical ≡ map (physicalOf scheme file (head .block)) (p .codes)
-    -- the scheme works on the packet
+    -- the scheme works on the packet, and its scale is declared
+    pub declares : declaredScale (head .scaling) ≡ accepted (p .sweep .declared)
     pub works : allowed scheme (p .sweep .figures .packet) ≡ true
     -- what stands after the symbology looks at no code
     pub finishes : (l : List ℕ) → finish scheme file na nc np head (picture p l) ≡ accepted (with-codes (physicalOf scheme file (head .block)) p l)
@@ -80,6 +81,7 @@ module _ (scheme : Scheme) (file : List ℕ) (clock : ℕ) (na nc np : ℕ) wher
         azimuths = cc;
         codes = cc;
         physical = refl;
+        declares = ed;
         works = not-false _ t;
         finishes = λ l. rw (t, ed, eu);
       })

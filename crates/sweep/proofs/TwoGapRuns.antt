@@ -4,7 +4,7 @@ use mathlib.Core.List.{List, _++_, map}
 use mathlib.Core.Path.{_≡_, sym, ap, _∙_, subst}
 use lib.ListN.{length, getD, take, drop, List·getD-append}
 use lib.Seq.{take-at}
-use Rattle.bytes.specs.Result.{accepted, then, lent}
+use Rattle.bytes.specs.Result.{Result, accepted, then, lent}
 use Rattle.bytes.proofs.Results.{through}
 use Rattle.scale.specs.declared.physical.Scheme.{Scheme}
 use Rattle.sweep.specs.declared.sweep.Sweep.{Sweep}
@@ -12,7 +12,7 @@ use Rattle.sweep.specs.declared.sweep.SweepAnswer.{SweepAnswer}
 use Rattle.sweep.specs.declared.sweep.SweepAnswer.the-variants as SweepAnswer
 use Rattle.symbology.specs.Words.{Bytes, DamageInWords}
 use Rattle.sweep.specs.Sweep.{Accepted, answerOf, Buffers, readInto, Ran}
-use Rattle.sweep.specs.GapSweep.{GapSweep, gapSweepOf, GapBuffers, gapsInto, GapRan}
+use Rattle.sweep.specs.GapSweep.{GapSweep, gapSweepOf, GapBuffers, gapsInto, MarkedRan, GapRan}
 use Rattle.sweep.specs.Demand3.{rowAt}
 use Rattle.sweep.specs.WithGaps.{GapRows, GapKept, NoneMarked, SamePicture, AsOrdinary, SameRoom, GapRuns, SameFront, OrdinaryRuns}
 use Rattle.sweep.proofs.RowLaws.{row-front}
@@ -88,6 +88,25 @@ two-gap-runs scheme file clock b b' s old new old' new' answer' ran ran' same sm
     subst (λ (s : Sweep). GapRuns scheme file b b' s new new' answer') is
     (runs scheme file clock b b' old new old' new' answer' p (subst (λ (s : Sweep). Ran scheme file clock b old new (SweepAnswer.Accepted s)) (sym is) ran) ran' same acc small (rw (← is) at d) (rw (← is) at room))
 
+-- ---- the same picture in the buffers of two runs, the second one that leaves marks
+
+pub same-front : (scheme : Scheme) (file : List ℕ) (clock : ℕ) (b : List ℕ) (old new : Buffers) {answer : SweepAnswer} (p : Accepted) → Ran scheme file clock b old new answer
+    → readInto scheme file clock b old ≡ accepted p → (old' new' : GapBuffers) {R : Result GapSweep} {answer' : SweepAnswer} → MarkedRan R old' new' answer'
+    → (g : GapSweep) → R ≡ accepted g → SamePicture g p → SameFront (p .sweep .figures) new new'
+same-front scheme file clock b old new p ran acc old' new' ran' g acc' k =
+    let z = sizes scheme file clock b _ _ _ p acc in
+    record {
+      azimuths =
+          front-is _ (g .azimuths) (old' .azimuths) (ran' .azimuths ∙ ap (λ x. lent x (λ q. q .azimuths) (old' .azimuths)) acc') (ap length (k .azimuths) ∙ z .azimuths)
+          ∙ k .azimuths ∙ sym (front-is _ (p .azimuths) (old .azimuths) (ran .azimuths ∙ ap (λ x. lent x (λ q. q .azimuths) (old .azimuths)) acc) (z .azimuths));
+      codes =
+          front-is _ (g .codes) (old' .codes) (ran' .codes ∙ ap (λ x. lent x (λ q. q .codes) (old' .codes)) acc') (ap length (k .codes) ∙ z .codes)
+          ∙ k .codes ∙ sym (front-is _ (p .codes) (old .codes) (ran .codes ∙ ap (λ x. lent x (λ q. q .codes) (old .codes)) acc) (z .codes));
+      physical =
+          front-is _ (g .physical) (old' .physical) (ran' .physical ∙ ap (λ x. lent x (λ q. q .physical) (old' .physical)) acc') (ap length (k .physical) ∙ z .physical)
+          ∙ k .physical ∙ sym (front-is _ (p .physical) (old .physical) (ran .physical ∙ ap (λ x. lent x (λ q. q .physical) (old .physical)) acc) (z .physical));
+    }
+
 -- ---- the same body with gaps and without
 
 module _ (scheme : Scheme) (file : List ℕ) (clock : ℕ) (b : List ℕ) (old new : Buffers) (old' new' : GapBuffers) (answer answer' : SweepAnswer)
@@ -123,22 +142,6 @@ module _ (scheme : Scheme) (file : List ℕ) (clock : ℕ) (b : List ℕ) (old n
   none-left : (s : Sweep) → NoneMarked (s .figures) (new' .marks) → (g : GapSweep) → gapsInto scheme file clock b old' ≡ accepted g → g .sweep ≡ s → NoneMarked (g .sweep .figures) (g .marks)
   none-left s none g acc is r lt = sym (marks-left g acc r lt) ∙ none r (subst (λ (t : Sweep). r < t .figures .«n_radials») is lt)
 
-  front : (p : Accepted) → readInto scheme file clock b old ≡ accepted p → (g : GapSweep) → gapsInto scheme file clock b old' ≡ accepted g → SamePicture g p
-      → SameFront (p .sweep .figures) new new'
-  front p acc g acc' k =
-      let z = sizes scheme file clock b _ _ _ p acc in
-      record {
-        azimuths =
-            front-is _ (g .azimuths) (old' .azimuths) (ran' .azimuths ∙ ap (λ x. lent x (λ q. q .azimuths) (old' .azimuths)) acc') (ap length (k .azimuths) ∙ z .azimuths)
-            ∙ k .azimuths ∙ sym (front-is _ (p .azimuths) (old .azimuths) (ran .azimuths ∙ ap (λ x. lent x (λ q. q .azimuths) (old .azimuths)) acc) (z .azimuths));
-        codes =
-            front-is _ (g .codes) (old' .codes) (ran' .codes ∙ ap (λ x. lent x (λ q. q .codes) (old' .codes)) acc') (ap length (k .codes) ∙ z .codes)
-            ∙ k .codes ∙ sym (front-is _ (p .codes) (old .codes) (ran .codes ∙ ap (λ x. lent x (λ q. q .codes) (old .codes)) acc) (z .codes));
-        physical =
-            front-is _ (g .physical) (old' .physical) (ran' .physical ∙ ap (λ x. lent x (λ q. q .physical) (old' .physical)) acc') (ap length (k .physical) ∙ z .physical)
-            ∙ k .physical ∙ sym (front-is _ (p .physical) (old .physical) (ran .physical ∙ ap (λ x. lent x (λ q. q .physical) (old .physical)) acc) (z .physical));
-      }
-
   pub ordinary-runs : OrdinaryRuns answer answer' new new'
   ordinary-runs =
       record {
@@ -157,5 +160,5 @@ module _ (scheme : Scheme) (file : List ℕ) (clock : ℕ) (b : List ℕ) (old n
             let (p, acc, is) = ordinary-gave s e in
             let (g, accg, is') = gap-gave s' e' in
             let k = law .equal g (sym again ∙ accg) (none-left s' none g accg is') p acc in
-            (sym is' ∙ k .sweep ∙ is, subst (λ (t : Sweep). SameFront (t .figures) new new') is (front p acc g accg k));
+            (sym is' ∙ k .sweep ∙ is, subst (λ (t : Sweep). SameFront (t .figures) new new') is (same-front scheme file clock b old new p ran acc old' new' ran' g accg k));
       }

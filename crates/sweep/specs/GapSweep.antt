@@ -7,7 +7,7 @@ use lib.Dec.{ltb}
 use lib.ListN.{length, take, drop, replicate}
 use lib.Ieee.{Float, nan}
 use Rattle.bytes.specs.Refusal.{kind, buffer}
-use Rattle.bytes.specs.Result.{Result, accepted, refuse, then, lent}
+use Rattle.bytes.specs.Result.{Result, accepted, refused, refuse, then, lent}
 use Rattle.bytes.specs.declared.error.Buffer.the-variants as Buffer
 use Rattle.scale.specs.declared.physical.Scheme.{Scheme}
 use Rattle.symbology.specs.Answers.{GapPicture, gapPictureOf}
@@ -34,6 +34,11 @@ blanked bins (suc mark ∷ marks) values = replicate bins nan ++ blanked bins ma
 unfoldable pub blankedRow : ℕ → List Float → List Float
 blankedRow zero row = row
 blankedRow (suc mark) row = replicate (length row) nan
+
+-- a lent buffer of values, with NaN laid over the rows that are marked
+abbrev pub blankedLent : Result (List Float) → ℕ → List ℕ → List Float → List Float
+blankedLent (accepted values) bins marks old = blanked bins marks (values ++ drop (length values) old)
+blankedLent (refused x) bins marks old = old
 
 -- after the head and the body: 10, 9, 36 as in the ordinary reading, then 36 of the mark buffer
 unfoldable pub gapFinish : Scheme → List ℕ → ℕ → ℕ → ℕ → ℕ → Head → GapPicture → Result GapSweep
@@ -75,10 +80,14 @@ abbrev pub gapsInto : Scheme → List ℕ → ℕ → List ℕ → GapBuffers �
 gapsInto scheme file clock body old =
     gapSweepOf scheme file clock body (length (old .azimuths)) (length (old .codes)) (length (old .physical)) (length (old .marks))
 
--- One run with gaps: the answer, and what the buffers hold before and after.
-pub record GapRan (scheme : Scheme) (file : List ℕ) (clock : ℕ) (body : List ℕ) (old new : GapBuffers) (answer : SweepAnswer) : Type 0 where
-  pub answered : answerOf answer ≡ gapSweepIn (gapsInto scheme file clock body old)
-  pub azimuths : new .azimuths ≡ lent (gapsInto scheme file clock body old) (λ p. p .azimuths) (old .azimuths)
-  pub codes : new .codes ≡ lent (gapsInto scheme file clock body old) (λ p. p .codes) (old .codes)
-  pub physical : new .physical ≡ lent (gapsInto scheme file clock body old) (λ p. p .physical) (old .physical)
-  pub marks : new .marks ≡ lent (gapsInto scheme file clock body old) (λ p. p .marks) (old .marks)
+-- A run that gives a picture with marks: the answer, and what the buffers hold before and after. `reading` is what is given.
+pub record MarkedRan (reading : Result GapSweep) (old new : GapBuffers) (answer : SweepAnswer) : Type 0 where
+  pub answered : answerOf answer ≡ gapSweepIn reading
+  pub azimuths : new .azimuths ≡ lent reading (λ p. p .azimuths) (old .azimuths)
+  pub codes : new .codes ≡ lent reading (λ p. p .codes) (old .codes)
+  pub physical : new .physical ≡ lent reading (λ p. p .physical) (old .physical)
+  pub marks : new .marks ≡ lent reading (λ p. p .marks) (old .marks)
+
+-- one run with gaps
+abbrev pub GapRan : Scheme → List ℕ → ℕ → List ℕ → GapBuffers → GapBuffers → SweepAnswer → Type 0
+GapRan scheme file clock body old new answer = MarkedRan (gapsInto scheme file clock body old) old new answer

@@ -8,3 +8,6 @@ pub mod WithGaps
 pub mod Clear
 pub mod GapOrder
 pub mod Tenths
+pub mod MergeSweep
+pub mod Receptions
+pub mod MergeOrder

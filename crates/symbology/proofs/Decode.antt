@@ -16,7 +16,8 @@ use Rattle.bytes.proofs.Readings.{part-slice}
 use Rattle.xdr.specs.Xdr.{atLeast0}
 use Rattle.bytes.specs.declared.error.Level3DecodeError.{Level3DecodeError}
 use Rattle.symbology.specs.Symbology.{Sweep, bodyShort, symbology}
-use Rattle.symbology.specs.Answers.{stepOf, Picture, joined, pictureOf, asked, roomIn, admit, decodeFor, figuresIn, figuresOf, Decodes}
+use Rattle.symbology.specs.Answers.{stepOf, Picture, joined, pictureOf, asked, roomIn, admit, passing, decodeFor, figuresIn, figuresOf, Decodes}
+use Rattle.symbology.specs.Merge.{usable}
 use Rattle.symbology.specs.Walk.{inMode, anyWalk, Plotted, Plots, onTerms, planned}
 use Rattle.symbology.specs.declared.figures.Figures.{Figures}
 use Rattle.symbology.specs.declared.figures.Terms.{Terms}
@@ -68,32 +69,38 @@ admit-room t na nc f h =
     passed (ltb nc (f .«n_radials» * f .«n_bins»)) _ _ tt e₃ λ b _.
     (ltb-false _ _ a, ltb-false _ _ b)
 
--- the other way, by the answers of the three tests
+-- a test before two steps
+pub refuse-then : {A B : Type 0} (b : Bool) (x : Refusal) (r : Result A) (k : A → Result B) → refuse b x (then r k) ≡ then (refuse b x r) k
+refuse-then true x r k = refl
+refuse-then false x r k = refl
+
+-- the other way, by the answers of the tests
 pub admit-is : (t : Terms) (na nc : ℕ) (f : Figures) {r c d x y : Result (Unit {0})} → r ≡ refuse (not (asked (t .packets) (f .packet))) (kind 10 []) (accepted tt)
     → c ≡ stepOf (t .packets) → d ≡ roomIn t na nc (f .«n_radials») (f .«n_radials» * f .«n_bins»)
     → y ≡ then c (λ _. d) → x ≡ then r (λ _. y) → x ≡ admit t na nc f
 unfolding admit
-admit-is t na nc f i j k m n = rw (n, m, i, j, k) (by (not (asked (t .packets) (f .packet))) _)
-  where
-    by : (b : Bool) (z : Result (Unit {0})) → then (refuse b (kind 10 []) (accepted (tt {0}))) (λ _. z) ≡ refuse b (kind 10 []) z
-    by true z = refl
-    by false z = refl
+admit-is t na nc f i j k m n = rw (n, m, i, j, k) (sym (refuse-then (not (asked (t .packets) (f .packet))) (kind 10 []) (accepted tt) _))
 
--- ---- a plan on terms
+pub use-is : (t : Terms) (f : Figures) {r c x : Result (Unit {0})} → r ≡ refuse (not (asked (t .packets) (f .packet))) (kind 10 []) (accepted tt)
+    → c ≡ stepOf (t .packets) → x ≡ then r (λ _. c) → x ≡ usable t f
+unfolding usable
+use-is t f i j n = rw (n, i, j) (sym (refuse-then (not (asked (t .packets) (f .packet))) (kind 10 []) (accepted tt) _))
 
-module _ (t : Terms) (na nc : ℕ) (R : Result (Given Sweep)) where
-  pub refused-before : {x : Refusal} → refused x ≡ R → refused x ≡ onTerms t na nc R
-  unfolding onTerms
+-- ---- a plan whose figures are tested
+
+module _ (test : Figures → Result (Unit {0})) (R : Result (Given Sweep)) where
+  pub refused-before : {x : Refusal} → refused x ≡ R → refused x ≡ passing test R
+  unfolding passing
   refused-before h = rw (← h) refl
 
   module _ {m : Bool} {body : List ℕ} {f : Figures} {from to at : ℕ} where
-    pub not-admitted : {x : Refusal} → Plotted m f from to at body R → refused x ≡ admit t na nc f → refused x ≡ onTerms t na nc R
-    unfolding onTerms
-    not-admitted p h = rw (p .whole, ← h) refl
+    pub not-passed : {x : Refusal} → Plotted m f from to at body R → refused x ≡ test f → refused x ≡ passing test R
+    unfolding passing
+    not-passed p h = rw (p .whole, ← h) refl
 
-    pub is-admitted : Plotted m f from to at body R → accepted tt ≡ admit t na nc f → Plotted m f from to at body (onTerms t na nc R)
-    unfolding onTerms
-    is-admitted p h =
+    pub is-passed : Plotted m f from to at body R → accepted tt ≡ test f → Plotted m f from to at body (passing test R)
+    unfolding passing
+    is-passed p h =
         record {
           radials = p .radials;
           end = p .end;
@@ -105,18 +112,18 @@ module _ (t : Terms) (na nc : ℕ) (R : Result (Given Sweep)) where
           whole = rw (p .whole, ← h);
         }
 
-    pub was-admitted : Plotted m f from to at body (onTerms t na nc R) → accepted tt ≡ admit t na nc f
-    unfolding onTerms
-    was-admitted p =
-        through R (λ g. then (admit t na nc (g .value .figures)) λ _. accepted g) _ (p .whole) λ g _ e.
-        through {C = accepted tt ≡ admit t na nc f} (admit t na nc (g .value .figures)) (λ _. accepted g) _ e λ u h same.
-        sym h ∙ ap (λ (x : Given Sweep). admit t na nc (x .value .figures)) (one-value same)
+    pub was-passed : Plotted m f from to at body (passing test R) → accepted tt ≡ test f
+    unfolding passing
+    was-passed p =
+        through R (λ g. then (test (g .value .figures)) λ _. accepted g) _ (p .whole) λ g _ e.
+        through {C = accepted tt ≡ test f} (test (g .value .figures)) (λ _. accepted g) _ e λ u h same.
+        sym h ∙ ap (λ (x : Given Sweep). test (x .value .figures)) (one-value same)
 
 -- what is made of a reading and then asked of its figures, the same on terms
 pub asked-on : {P C : Type 0} (t : Terms) (na nc : ℕ) (make : Given Sweep → P) (figures : P → Figures) → ((g : Given Sweep) → figures (make g) ≡ g .value .figures)
     → (next : P → Result C) (R : Result (Given Sweep))
     → then (then R λ g. accepted (make g)) (λ p. then (admit t na nc (figures p)) λ _. next p) ≡ then (onTerms t na nc R) λ g. next (make g)
-unfolding onTerms
+unfolding passing
 asked-on t na nc make figures same next (accepted g) = rw (same g) (by (admit t na nc (g .value .figures)))
   where
     by : (z : Result (Unit {0})) → then z (λ _. next (make g)) ≡ then (then z λ _. accepted g) λ g. next (make g)

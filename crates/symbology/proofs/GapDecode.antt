@@ -15,7 +15,7 @@ use Rattle.bytes.specs.declared.error.Buffer.the-variants as Buffer
 use Rattle.bytes.specs.declared.error.Level3DecodeError.{Level3DecodeError}
 use Rattle.bytes.specs.declared.error.Level3DecodeError.the-variants as Error
 use Rattle.symbology.specs.Symbology.{Sweep, symbology}
-use Rattle.symbology.specs.Answers.{GapPicture, joined, shown, markOf, gapPictureOf, gapDecodeFor, gapFiguresIn, figuresOf, DecodesWithGaps}
+use Rattle.symbology.specs.Answers.{GapPicture, joined, shown, markOf, pictureWith, gapPictureOf, gapsOnTerms, gapDecodeFor, gapFiguresIn, figuresOf, DecodesWithGaps}
 use Rattle.symbology.specs.Walk.{inMode, codesIn, marksIn, DecodesIn, Plotted, onTerms}
 use Rattle.symbology.proofs.Decode.{radialsIn, radials-there, asked-on, decode-refused, decode-is}
 use Rattle.symbology.specs.declared.figures.Figures.{Figures}
@@ -24,21 +24,21 @@ use Rattle.symbology.specs.declared.figures.FiguresRead.{FiguresRead}
 use Rattle.symbology.specs.declared.figures.FiguresRead.the-variants as FiguresRead
 
 abbrev drawn : Figures → Given (List Float) → GapPicture
-drawn f g = record { picture = record { figures = f; azimuths = g .value; codes = joined (map (shown (f .«n_bins»)) (g .rows)) }; marks = map markOf (g .rows) }
+drawn f g = pictureWith (record { figures = f; azimuths = g .value }) (g .rows)
 
 abbrev pictured : Given Sweep → GapPicture
-pictured g = drawn (g .value .figures) (record { value = g .value .azimuths; next = g .next; rows = g .rows })
+pictured g = pictureWith (g .value) (g .rows)
 
 abbrev roomy : ℕ → GapPicture → Result GapPicture
 roomy nm p = refuse (ltb nm (p .picture .figures .«n_radials»)) (kind 36 (buffer Buffer.Marks ∷ [])) (accepted p)
 
 gap-by : (t : Terms) (body : List ℕ) (na nc nm : ℕ)
     → gapDecodeFor t body na nc nm ≡ then (onTerms t na nc (run (inMode true symbology) body 0)) λ g. roomy nm (pictured g)
-unfolding gapDecodeFor gapPictureOf inMode
+unfolding gapDecodeFor gapsOnTerms gapPictureOf inMode
 gap-by t body na nc nm = asked-on t na nc pictured (λ p. p .picture .figures) (λ g. refl) (roomy nm) (run (gaps symbology) body 0)
 
 -- the figures, and the buffers that held az, cs and ms
-answered : {e : ℕ → ℕ → ℕ → Result GapPicture} {d : Result GapPicture} (az : List Float) (cs ms : List ℕ) {r : FiguresRead} → d ≡ e (length az) (length cs) (length ms)
+pub answered : {e : ℕ → ℕ → ℕ → Result GapPicture} {d : Result GapPicture} (az : List Float) (cs ms : List ℕ) {r : FiguresRead} → d ≡ e (length az) (length cs) (length ms)
     → figuresOf r ≡ gapFiguresIn d → {az' : List Float} {cs' ms' : List ℕ} → az' ≡ lent d (λ p. p .picture .azimuths) az → cs' ≡ lent d (λ p. p .picture .codes) cs
     → ms' ≡ lent d (λ p. p .marks) ms → DecodesWithGaps e az az' cs cs' ms ms' r
 answered az cs ms e i a c m =

@@ -24,7 +24,7 @@ module _ (b : List ℕ) (g : Given Sweep) (acc : run (gaps symbology) b 0 ≡ ac
   gap-count = gap-rows symbology b g acc .0 ∙ gap-placed b g acc .count
 
   -- each, a gap or not, has n_bins codes
-  gap-long : (r : ℕ) → r < g .value .figures .«n_radials» → length (shown (g .value .figures .«n_bins») (getD (g .rows) r [])) ≡ g .value .figures .«n_bins»
+  pub gap-long : (r : ℕ) → r < g .value .figures .«n_radials» → length (shown (g .value .figures .«n_bins») (getD (g .rows) r [])) ≡ g .value .figures .«n_bins»
   unfolding rowIn dataIn
   gap-long r lt =
       let q = gap-placed b g acc in

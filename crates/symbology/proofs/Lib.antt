@@ -29,9 +29,15 @@ pub mod GapKinds
 pub mod Walking
 pub mod Writing
 pub mod Showing
+pub mod SameFigures
+pub mod CursorLaws
+pub mod RowSame
+pub mod PairWalk
+pub mod Merging
 pub mod XdrRadials
 pub mod Table
 pub mod Decode
 pub mod GapDecode
+pub mod MergeDecode
 pub mod Bodies
 pub mod Clear

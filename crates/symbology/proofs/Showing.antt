@@ -23,12 +23,12 @@ use Rattle.symbology.specs.declared.figures.Packet.{Packet}
 
 -- ---- one row
 
-abbrev Tested : Result (List ℕ) → Result (Unit {0})
+abbrev pub Tested : Result (List ℕ) → Result (Unit {0})
 Tested c = then (keptOf false c) (λ _. accepted tt)
 
 module _ (packet : Packet) (bins r : ℕ) (bytes : List ℕ) where
   -- the data make a row
-  row-there : accepted tt ≡ Tested (rowOf packet bins r bytes) → (codes : List ℕ) × (rowOf packet bins r bytes ≡ accepted codes)
+  pub row-there : accepted tt ≡ Tested (rowOf packet bins r bytes) → (codes : List ℕ) × (rowOf packet bins r bytes ≡ accepted codes)
   unfolding keptOf
   row-there h = by (rowOf packet bins r bytes) refl h
     where

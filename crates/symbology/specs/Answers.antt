@@ -9,9 +9,9 @@ use lib.Ieee.{Float, le}
 use Rattle.bytes.specs.Float.{f32}
 use Rattle.bytes.specs.Refusal.{kind, float, buffer, refusalOf}
 use Rattle.bytes.specs.Result.{Result, accepted, refused, refuse, then, lent}
-use Rattle.bytes.specs.Reading.{run, gaps}
+use Rattle.bytes.specs.Reading.{run, gaps, Given}
 use Rattle.bytes.specs.declared.error.Buffer.the-variants as Buffer
-use Rattle.symbology.specs.Symbology.{Header, symbology}
+use Rattle.symbology.specs.Symbology.{Sweep, Header, symbology}
 use Rattle.symbology.specs.declared.figures.Figures.{Figures}
 use Rattle.symbology.specs.declared.figures.Packet.{Packet}
 use Rattle.symbology.specs.declared.figures.Packet.the-variants.{Packet16, PacketAf1f, Packet28}
@@ -121,6 +121,13 @@ pub record Decodes (d : ℕ → ℕ → Result Picture) (az az' : List Float) (c
   pub azimuths : az' ≡ lent (d (length az) (length cs)) (λ p. p .azimuths) az
   pub codes : cs' ≡ lent (d (length az) (length cs)) (λ p. p .codes) cs
 
+-- a reading whose figures pass a test
+unfoldable pub passing : (Figures → Result (Unit {0})) → Result (Given Sweep) → Result (Given Sweep)
+passing test reading =
+    then reading λ g.
+    then (test (g .value .figures)) λ _.
+    accepted g
+
 -- ---- the reading with gaps
 
 -- The picture with gaps, and a mark for each radial: 1 where its data make no row, else 0.
@@ -138,25 +145,29 @@ shown bins [] = []
 shown bins (zero ∷ codes) = codes
 shown bins (suc mark ∷ codes) = replicate bins 0
 
+-- the picture of a sweep with these rows and gaps
+abbrev pub pictureWith : Sweep → List (List ℕ) → GapPicture
+pictureWith s rows =
+    record {
+      picture = record { figures = s .figures; azimuths = s .azimuths; codes = joined (map (shown (s .figures .«n_bins»)) rows) };
+      marks = map markOf rows;
+    }
+
 unfoldable pub gapPictureOf : List ℕ → Result GapPicture
 gapPictureOf body =
     then (run (gaps symbology) body 0) λ g.
-    accepted (record {
-      picture = record {
-        figures = g .value .figures;
-        azimuths = g .value .azimuths;
-        codes = joined (map (shown (g .value .figures .«n_bins»)) (g .rows));
-      };
-      marks = map markOf (g .rows);
-    })
+    accepted (pictureWith (g .value) (g .rows))
 
--- the same on terms; 36 of the mark buffer (`nm` places) is last
-unfoldable pub gapDecodeFor : Terms → List ℕ → ℕ → ℕ → ℕ → Result GapPicture
-gapDecodeFor t body na nc nm =
-    then (gapPictureOf body) λ p.
+-- a picture on terms; 36 of the mark buffer (`nm` places) is last
+unfoldable pub gapsOnTerms : Terms → Result GapPicture → ℕ → ℕ → ℕ → Result GapPicture
+gapsOnTerms t picture na nc nm =
+    then picture λ p.
     then (admit t na nc (p .picture .figures)) λ _.
     refuse (ltb nm (p .picture .figures .«n_radials»)) (kind 36 (buffer Buffer.Marks ∷ []))
     (accepted p)
+
+unfoldable pub gapDecodeFor : Terms → List ℕ → ℕ → ℕ → ℕ → Result GapPicture
+gapDecodeFor t body na nc nm = gapsOnTerms t (gapPictureOf body) na nc nm
 
 abbrev pub gapFiguresIn : Result GapPicture → Result Figures
 gapFiguresIn r = then r λ p. accepted (p .picture .figures)

@@ -7,9 +7,12 @@ pub mod Levels
 pub mod Symbology
 pub mod Table
 pub mod Answers
+pub mod Merge
 pub mod Walk
 pub mod Damage
 pub mod Places
 pub mod Words
 pub mod Gaps
 pub mod Clear
+pub mod Cursors
+pub mod Pairs

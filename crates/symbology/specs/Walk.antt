@@ -17,7 +17,8 @@ use Rattle.bytes.specs.Reading.{Read, Flat, gaps, marked, give, remaining, _>>=
 use Rattle.xdr.specs.Xdr.{pointer, elements}
 use Rattle.symbology.specs.Centre.{centre}
 use Rattle.symbology.specs.Rows.{rowOf, codesOf, FullRow}
-use Rattle.symbology.specs.Answers.{joined, shown, markOf, admit, decodeFor, gapDecodeFor, Decodes, DecodesWithGaps}
+use Rattle.symbology.specs.Answers.{joined, shown, markOf, admit, passing, decodeFor, gapDecodeFor, Decodes, DecodesWithGaps}
+use Rattle.symbology.specs.Merge.{usable}
 use Rattle.symbology.specs.Places.{Enough}
 use Rattle.symbology.specs.Symbology.{Sweep, XdrRadial, covered, frame, xdrFrame, Gates28, component, only}
 use Rattle.symbology.specs.declared.figures.Packet.{Packet}
@@ -37,6 +38,8 @@ use Rattle.symbology.specs.declared.figures.FiguresRead.{FiguresRead}
 use Rattle.symbology.specs.declared.figures.FiguresRead.the-variants as FiguresRead
 use Rattle.symbology.specs.declared.spans.SpanRead.{SpanRead}
 use Rattle.symbology.specs.declared.spans.SpanRead.the-variants as SpanRead
+use Rattle.symbology.specs.declared.spans.Ask.{Ask}
+use Rattle.symbology.specs.declared.spans.Ask.the-variants as Ask
 use Rattle.symbology.specs.declared.spans.Next.{Next}
 use Rattle.symbology.specs.declared.spans.Next.the-variants as Next
 
@@ -274,11 +277,13 @@ inPart from to (PlanRead.Value f at next) = BodyPlan.Value f from to at
 inPart from to (PlanRead.Refused e) = BodyPlan.Refused e
 
 -- a body's reading on terms, with buffers of na and nc places: its own refusals, then 10, 9, 36
-unfoldable pub onTerms : Terms → ℕ → ℕ → Result (Given Sweep) → Result (Given Sweep)
-onTerms t na nc reading =
-    then reading λ g.
-    then (admit t na nc (g .value .figures)) λ _.
-    accepted g
+abbrev pub onTerms : Terms → ℕ → ℕ → Result (Given Sweep) → Result (Given Sweep)
+onTerms t na nc reading = passing (admit t na nc) reading
+
+-- what is asked of a body's figures
+abbrev pub askedFor : Terms → Ask → Figures → Result (Unit {0})
+askedFor t Ask.Use = usable t
+askedFor t (Ask.Room na nc) = admit t na nc
 
 -- the figures of a plan
 abbrev pub planned : BodyPlan → FiguresRead

@@ -53,7 +53,7 @@ pub fn write_row(packet: Packet, data: &[u8], row: &mut [u16])
 const GAP: u8 = 1;
 
 // The codes of data that make a row, and the mark 0; else codes 0, and the mark of a gap.
-fn show_row(packet: Packet, radial: usize, data: &[u8], row: &mut [u16]) -> u8
+pub fn show_row(packet: Packet, radial: usize, data: &[u8], row: &mut [u16]) -> u8
     requires { ⌜ Enough packet (length (now row)) (length (now «data»)) ⌝ }
     ensures { λ r. ⌜ r ≡ markOf (marked (rowOf packet (length (now (row .entry))) radial (now («data» .entry)))) ⌝ }
     ensures { λ _. ⌜ now (row .exit)

@@ -1,4 +1,4 @@
-// Where a radial's data stand, where a walk goes on, and the plans: what a check hands to the writing.
+// Where a radial's data stand, where a walk goes on, and the plans: what a check hands to the writing, and what it asks.
 use crate::figures::Figures;
 use bytes::error::Level3DecodeError;
 
@@ -33,4 +33,10 @@ pub enum BodyPlan {
         at: usize,
     },
     Refused(Level3DecodeError),
+}
+
+// What is tested of a body's figures: 10 and 9, or those and 36 with buffers of so many places.
+pub enum Ask {
+    Use,
+    Room { azimuths: usize, codes: usize },
 }

@@ -7,6 +7,7 @@ use crate::figures::Packets;
 use crate::figures::Room;
 use crate::figures::Terms;
 use crate::radials::HeaderRead;
+use crate::spans::Ask;
 use crate::spans::BodyPlan;
 use crate::spans::PlanRead;
 use crate::trailing::Check;
@@ -23,9 +24,11 @@ ghost use Rattle.bytes.specs.Refusal.{kind};
 ghost use Rattle.bytes.specs.Result.{accepted, refuse, then};
 ghost use Rattle.bytes.specs.Reading.{run, walk, outcome};
 ghost use Rattle.symbology.specs.Symbology.{radialPacket, genericPacket, bodyShort, blockHeader, symbology};
-ghost use Rattle.symbology.specs.Answers.{asked, tooFew, stepOf, roomIn, admit, pictureOf, decodeFor, decodeOf, gapDecodeFor, figuresIn};
-ghost use Rattle.symbology.specs.Answers.{figuresOf, codeReadOf, checkOf, Decodes, DecodesWithGaps};
-ghost use Rattle.symbology.specs.Walk.{inMode, inPart, Plots, onTerms, planned, DecodesIn};
+ghost use Rattle.symbology.specs.Answers.{asked, tooFew, stepOf, roomIn, admit, pictureOf, decodeFor, decodeOf, gapsOnTerms, gapDecodeFor, figuresIn};
+ghost use Rattle.symbology.specs.Answers.{figuresOf, codeReadOf, checkOf, passing, Decodes, DecodesWithGaps};
+ghost use Rattle.symbology.specs.Walk.{inMode, inPart, Plots, askedFor, planned, DecodesIn, Accepted};
+ghost use Rattle.symbology.specs.Merge.{usable, mergeFor};
+ghost use Rattle.symbology.specs.Pairs.{walkBy, mergedParts};
 
 const RADIAL_PACKET_CODE: u16 = 16;
 
@@ -285,9 +288,30 @@ fn test_terms(terms: Terms, azimuths: usize, codes: usize, figures: Figures) -> 
     both(packet, both(step, room))
 }
 
-// The whole body, checked, and then 10, 9, 36 with buffers of so many places.
-fn plan_for(body: &[u8], terms: Terms, azimuths: usize, codes: usize, gaps: bool) -> BodyPlan
-    ensures { λ r. ⌜ Plots gaps r (now (body .entry)) (onTerms terms azimuths codes (run (inMode gaps symbology) (now (body .entry)) 0)) ⌝ }
+// 10, 9.
+fn test_use(terms: Terms, figures: Figures) -> Check
+    ensures { λ r. ⌜ checkOf r ≡ usable terms figures ⌝ }
+{
+    let packets = terms.packets;
+    let code = figures.packet;
+    let packet = test_packet(packets, code);
+    let step = test_step(packets);
+    both(packet, step)
+}
+
+fn test_figures(terms: Terms, ask: Ask, figures: Figures) -> Check
+    requires { ⌜ figures .«n_radials» * figures .«n_bins» ≤ 4000000 ⌝ }
+    ensures { λ r. ⌜ checkOf r ≡ askedFor terms ask figures ⌝ }
+{
+    match ask {
+        Ask::Use => test_use(terms, figures),
+        Ask::Room { azimuths, codes } => test_terms(terms, azimuths, codes, figures),
+    }
+}
+
+// The whole body, checked, and then its figures.
+fn plan_for(body: &[u8], terms: Terms, ask: Ask, gaps: bool) -> BodyPlan
+    ensures { λ r. ⌜ Plots gaps r (now (body .entry)) (passing (askedFor terms ask) (run (inMode gaps symbology) (now (body .entry)) 0)) ⌝ }
 {
     match plan(body, gaps) {
         BodyPlan::Refused(error) => BodyPlan::Refused(error),
@@ -296,7 +320,7 @@ fn plan_for(body: &[u8], terms: Terms, azimuths: usize, codes: usize, gaps: bool
             from,
             to,
             at,
-        } => match test_terms(terms, azimuths, codes, figures) {
+        } => match test_figures(terms, ask, figures) {
             Check::Refused(error) => BodyPlan::Refused(error),
             Check::Passed => BodyPlan::Value {
                 figures,
@@ -312,7 +336,8 @@ fn plan_for(body: &[u8], terms: Terms, azimuths: usize, codes: usize, gaps: bool
 pub fn check_for(body: &[u8], terms: Terms, azimuths: usize, codes: usize) -> FiguresRead
     ensures { λ r. ⌜ figuresOf r ≡ figuresIn (decodeFor terms (now (body .entry)) azimuths codes) ⌝ }
 {
-    figures_of(plan_for(body, terms, azimuths, codes, false))
+    let ask = Ask::Room { azimuths, codes };
+    figures_of(plan_for(body, terms, ask, false))
 }
 
 // No room for the marks, which are written with gaps alone.
@@ -337,7 +362,11 @@ fn decode_in(
     ensures { λ r. ⌜ DecodesIn gaps terms (now (body .entry)) (now (azimuths .entry)) (now (azimuths .exit))
         (now (codes .entry)) (now (codes .exit)) (now (marks .entry)) (now (marks .exit)) r ⌝ }
 {
-    match plan_for(body, terms, azimuths.len(), codes.len(), gaps) {
+    let ask = Ask::Room {
+        azimuths: azimuths.len(),
+        codes: codes.len(),
+    };
+    match plan_for(body, terms, ask, gaps) {
         BodyPlan::Refused(error) => FiguresRead::Refused(error),
         BodyPlan::Value {
             figures,
@@ -402,4 +431,99 @@ pub fn decode_with_gaps(
         (now (codes .entry)) (now (codes .exit)) (now (marks .entry)) (now (marks .exit)) r ⌝ }
 {
     decode_in(body, terms, azimuths, codes, marks, true)
+}
+
+// ---- two receptions, one picture
+
+// Two bodies of the same figures, whose radials stand in s and t: 43 of their azimuths, 44, 36, and the picture.
+fn merge_parts(
+    figures: Figures,
+    s: &[u8],
+    i: usize,
+    t: &[u8],
+    j: usize,
+    terms: Terms,
+    azimuths: &mut [f64],
+    codes: &mut [u16],
+    marks: &mut [u8],
+) -> FiguresRead
+    requires { ⌜ (figures .«n_radials» ≤ 100000) × (figures .«n_radials» * figures .«n_bins» ≤ 4000000)
+        × Accepted (walkBy figures (now s) i) × Accepted (walkBy figures (now t) j) ⌝ }
+    ensures { λ r. ⌜ DecodesWithGaps (gapsOnTerms terms (mergedParts figures (walkBy figures (now (s .entry)) i) (walkBy figures (now (t .entry)) j)))
+        (now (azimuths .entry)) (now (azimuths .exit)) (now (codes .entry)) (now (codes .exit)) (now (marks .entry)) (now (marks .exit)) r ⌝ }
+{
+    let packet = figures.packet;
+    match crate::pairs::compare_radials(packet, s, i, t, j, figures.n_radials, figures.n_bins) {
+        Check::Refused(error) => FiguresRead::Refused(error),
+        Check::Passed => match test_terms(terms, azimuths.len(), codes.len(), figures) {
+            Check::Refused(error) => FiguresRead::Refused(error),
+            Check::Passed => {
+                if marks.len() < figures.n_radials {
+                    return FiguresRead::Refused(Level3DecodeError::BufferTooShort {
+                        buffer: Buffer::Marks,
+                    });
+                }
+                crate::pairs::merge_radials(
+                    packet,
+                    figures.n_radials,
+                    figures.n_bins,
+                    s,
+                    i,
+                    t,
+                    j,
+                    azimuths,
+                    codes,
+                    marks,
+                );
+                FiguresRead::Value(figures)
+            }
+        },
+    }
+}
+
+// The picture that two receptions of a body make on terms, each read with gaps: a row is the first's if whole there, else the second's if
+// whole, else a gap. A refusal writes nothing.
+pub fn merge_pictures(
+    first: &[u8],
+    second: &[u8],
+    terms: Terms,
+    azimuths: &mut [f64],
+    codes: &mut [u16],
+    marks: &mut [u8],
+) -> FiguresRead
+    ensures { λ r. ⌜ DecodesWithGaps (mergeFor terms (now (first .entry)) (now (second .entry))) (now (azimuths .entry)) (now (azimuths .exit))
+        (now (codes .entry)) (now (codes .exit)) (now (marks .entry)) (now (marks .exit)) r ⌝ }
+{
+    match plan_for(first, terms, Ask::Use, true) {
+        BodyPlan::Refused(error) => FiguresRead::Refused(error),
+        BodyPlan::Value {
+            figures,
+            from,
+            to,
+            at,
+        } => match plan_for(second, terms, Ask::Use, true) {
+            BodyPlan::Refused(error) => FiguresRead::Refused(error),
+            BodyPlan::Value {
+                figures: figures2,
+                from: from2,
+                to: to2,
+                at: at2,
+            } => {
+                if !crate::same::same_figures(figures, figures2) {
+                    return FiguresRead::Refused(Level3DecodeError::DifferentSweeps);
+                }
+                merge_parts(
+                    figures,
+                    &first[from..to],
+                    at,
+                    &second[from2..to2],
+                    at2,
+                    terms,
+                    azimuths,
+                    codes,
+                    marks,
+                )
+            }
+        },
+    }
 }

@@ -15,7 +15,7 @@ pub const ITEMS: [&str; 7] = ["int", "uint", "float", "string_body", "padding", 
 pub const BUFFERS: [&str; 6] = ["azimuths", "codes", "physical", "marks", "totals", "output"];
 
 /// The table's names, from 1.
-pub const NAMES: [&str; 42] = [
+pub const NAMES: [&str; 44] = [
     "NoAwipsToken",
     "NoMessageHeader",
     "PdbFieldOutOfBounds",
@@ -58,6 +58,8 @@ pub const NAMES: [&str; 42] = [
     "TariffMalformed",
     "TotalTooLarge",
     "RowTooLong",
+    "DifferentSweeps",
+    "RowsDisagree",
 ];
 
 #[derive(Debug, Clone, Copy, PartialEq, Eq)]
@@ -142,7 +144,7 @@ pub struct Each {
 pub enum Answer {
     Refused(Refusal),
     Sweep(Box<Sweep>),
-    /// A gap reading: a mark for each radial, 1 where the row is a gap.
+    /// A gap reading, or two merged: a mark for each radial, 1 where the row is a gap.
     Gaps(Box<Sweep>, Vec<u8>),
     /// A sweep and a total for each field of the plan.
     Totals(Box<Sweep>, Vec<u64>),
@@ -219,7 +221,7 @@ impl Refusal {
         match number {
             7..=9 => (0, 1),
             20 => (1, 1),
-            3 | 5 | 11 | 12 | 14 | 17 | 27 | 28 | 35..=39 => (1, 0),
+            3 | 5 | 11 | 12 | 14 | 17 | 27 | 28 | 35..=39 | 44 => (1, 0),
             4 | 13 | 15 | 19 | 24 | 25 | 26 | 29 | 30 => (2, 0),
             21 | 22 | 23 | 31 | 32 | 34 => (3, 0),
             16 | 18 | 33 => (4, 0),

@@ -44,6 +44,16 @@ pub enum Case {
         file: Vec<u8>,
         body: Vec<u8>,
     },
+    /// Two receptions: a gap reading's input, and the second body.
+    Merge {
+        clock: i128,
+        scheme: Scheme,
+        lent: Lent,
+        marks: usize,
+        file: Vec<u8>,
+        body: Vec<u8>,
+        second: Vec<u8>,
+    },
     /// A field plan: a sweep's input, how many totals are lent, and the plan.
     Plan {
         clock: i128,
@@ -243,6 +253,7 @@ impl Case {
         match self {
             Case::Sweep { .. } => "sweep",
             Case::Gaps { .. } => "gaps",
+            Case::Merge { .. } => "merge",
             Case::Plan { .. } => "plan",
             Case::Sym { .. } => "sym",
             Case::Export { .. } => "export",
@@ -275,6 +286,16 @@ impl Case {
         }
     }
 
+    /// A gap reading's input with a second body.
+    pub fn with_second(self, second: Vec<u8>) -> Case {
+        match self {
+            Case::Gaps { clock, scheme, lent, marks, file, body } => {
+                Case::Merge { clock, scheme, lent, marks, file, body, second }
+            }
+            other => other,
+        }
+    }
+
     /// A sweep's input with a field plan.
     pub fn with_plan(self, totals: usize, plan: Vec<u8>) -> Case {
         match self {
@@ -283,12 +304,12 @@ impl Case {
         }
     }
 
-    /// The ordinary reading of a gap reading's input, or of a plan's.
+    /// The ordinary reading of a gap reading's input, of a plan's, or of the first of two bodies.
     pub fn ordinary(self) -> Case {
         match self {
-            Case::Gaps { clock, scheme, lent, file, body, .. } | Case::Plan { clock, scheme, lent, file, body, .. } => {
-                Case::Sweep { clock, scheme, lent, file, body }
-            }
+            Case::Gaps { clock, scheme, lent, file, body, .. }
+            | Case::Merge { clock, scheme, lent, file, body, .. }
+            | Case::Plan { clock, scheme, lent, file, body, .. } => Case::Sweep { clock, scheme, lent, file, body },
             other => other,
         }
     }
@@ -310,6 +331,7 @@ impl Case {
         let case = match word(0)? {
             "sweep" => sweep(7)?,
             "gaps" => sweep(8)?.with_marks(number(word(7)?)?),
+            "merge" => sweep(8)?.with_marks(number(word(7)?)?).with_second(bytes(10)?),
             "plan" => sweep(8)?.with_plan(number(word(7)?)?, bytes(10)?),
             "sym" => Case::Sym { body: bytes(2)? },
             "export" => Case::Export { out: number(word(2)?)?, body: bytes(3)? },
@@ -362,6 +384,11 @@ impl Case {
             Case::Gaps { clock, scheme, lent, marks, file, body } => {
                 let Lent { azimuths, codes, physical } = lent;
                 format!("{clock} {} {azimuths} {codes} {physical} {marks} {} {}", scheme.text(), hex(file), hex(body))
+            }
+            Case::Merge { clock, scheme, lent, marks, file, body, second } => {
+                let Lent { azimuths, codes, physical } = lent;
+                let places = format!("{azimuths} {codes} {physical} {marks}");
+                format!("{clock} {} {places} {} {} {}", scheme.text(), hex(file), hex(body), hex(second))
             }
             Case::Plan { clock, scheme, lent, totals, file, body, plan } => {
                 let Lent { azimuths, codes, physical } = lent;

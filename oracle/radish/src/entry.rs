@@ -331,7 +331,12 @@ fn accepted(case: &Case) -> Result<Answer, Refusal> {
         Case::Sweep { clock, scheme, lent, file, body } => {
             Answer::Sweep(Box::new(sweep(read_sweep(file, *clock, *scheme, body, *lent)?)))
         }
-        Case::Gaps { .. } | Case::Plan { .. } | Case::Export { .. } | Case::Date { .. } | Case::Charge { .. } => Answer::Absent,
+        Case::Gaps { .. }
+        | Case::Merge { .. }
+        | Case::Plan { .. }
+        | Case::Export { .. }
+        | Case::Date { .. }
+        | Case::Charge { .. } => Answer::Absent,
         Case::Sym { body } => Answer::Picture(Box::new(picture(packet(body), read_symbology(body)?.0))),
         Case::Token { file } => Answer::Token(token(header::find_awips_token(file).map_err(refusal)?)),
         Case::Mhb { file } => Answer::Number(header::find_message_header(file).map_err(refusal)? as i128),

@@ -52,6 +52,18 @@ fn main() {
         Job { entries, rounds, name, body, lent }.gaps();
     }
     println!();
+    println!("| packet | two receptions, class | gaps, µs | merged, µs | merged / gaps |");
+    println!("|---|---|---:|---:|---:|");
+    for (name, body, radials, bins) in [
+        ("16, 720 × 1840", &sixteen, 720, 1840),
+        ("AF1F, 360 × 460, runs to 15", &runs[0], 360, 460),
+        ("AF1F, 360 × 460, runs to 4", &runs[1], 360, 460),
+        ("28, 360 × 920", &levels, 360, 920),
+    ] {
+        let lent = Lent { azimuths: radials, codes: radials * bins, physical: radials * bins };
+        Job { entries, rounds, name, body, lent }.merge();
+    }
+    println!();
     println!("| packet | plan, precipitation | sweep, µs | with totals, µs | totals / sweep |");
     println!("|---|---|---:|---:|---:|");
     let lent = Lent { azimuths: 720, codes: 720 * 1840, physical: 720 * 1840 };
@@ -134,6 +146,16 @@ impl Job<'_> {
         let [sweep, gaps] =
             self.medians([Timer::new(|| assert_eq!(one.sweep(), 0)), Timer::new(|| assert_eq!(other.gaps(), 0))]);
         println!("| {} | whole body | {sweep:.1} | {gaps:.1} | {:.2} |", self.name, gaps / sweep);
+    }
+
+    /// The body merged with another of the same bytes beside its reading with gaps; the Rust has neither.
+    fn merge(&self) {
+        let file = sample::bench_files().into_iter().find(|(_, scheme, _)| *scheme == Scheme::Class).unwrap().2;
+        let [mut one, mut other] = [0, 1].map(|_| Timed::new(self.entries, &file, CLOCK, Scheme::Class, self.body, self.lent));
+        let second = self.body.to_vec();
+        let [gaps, merged] =
+            self.medians([Timer::new(|| assert_eq!(one.gaps(), 0)), Timer::new(|| assert_eq!(other.merge(&second), 0))]);
+        println!("| {} | no gap in either | {gaps:.1} | {merged:.1} | {:.2} |", self.name, merged / gaps);
     }
 
     /// A plan beside the ordinary reading; the Rust has none.

@@ -59,6 +59,7 @@ impl Compare {
         }
         self.every_width(seed);
         self.gaps_fixed(seed);
+        self.merges_fixed(seed);
         self.plans_fixed(seed);
         self.clear_fixed(seed);
         self.level_counts(seed);

@@ -1,6 +1,7 @@
 //! Whole cases, in weights that make every refusal and every packet under every scheme occur often.
 use super::body::{self, Body};
 use super::file::{self, File};
+use super::generic;
 use super::plans::{self, Record};
 use super::Rng;
 use crate::damage;
@@ -184,6 +185,134 @@ pub fn gaps(rng: &mut Rng) -> Case {
         _ => {}
     }
     Case::Gaps { clock, scheme, lent, marks, file: file.bytes, body: body.bytes }
+}
+
+/// Two bodies to be merged: receptions of one body, damaged in any radials; or different sweeps; and some of the time another scheme, file
+/// or buffers.
+pub fn merge(rng: &mut Rng) -> Case {
+    let packet = rng.pick(&Packet::ALL);
+    let what = rng.below(24);
+    let scheme = if what == 0 { scheme(rng) } else { fitting_scheme(rng, packet) };
+    let Time { days, seconds, clock } = time(rng);
+    let mut file = file::file(rng, scheme, days, seconds);
+    let mut body = body::good(rng, packet);
+    if packet == Packet::P28 && rng.one_in(4) {
+        odd_figure(rng, &mut body);
+    }
+    let lent = if what < 5 { scant(rng, &body) } else { enough(rng, &body) };
+    let marks = if what < 5 { some(rng, body.radials) } else { body.radials + rng.below(3) };
+    let mut second = Body { bytes: body.bytes.clone(), ends: body.ends.clone(), starts: body.starts.clone(), marks: body.marks.clone(), ..body };
+    match what {
+        4 | 5 => second = body::of_size(rng, packet, body.radials, body.bins),
+        6 => second = body::good(rng, packet),
+        7 => {
+            // the same counts, range scale and centres in the other packet
+            if packet != Packet::P28 {
+                let other = if packet == Packet::P16 { Packet::Af1f } else { Packet::P16 };
+                second = body::of_size(rng, other, body.radials, body.bins);
+                second.bytes[26..28].copy_from_slice(&body.bytes[26..28]);
+                for (one, two) in body.starts.iter().zip(&second.starts) {
+                    second.bytes[two + 2..two + 6].copy_from_slice(&body.bytes[one + 2..one + 6]);
+                }
+            }
+        }
+        8 if packet == Packet::P28 => zeros(rng, [&mut body, &mut second]),
+        8..=11 => other_figure(rng, &mut second),
+        12 => spoil_file(rng, &mut file),
+        13 => body::damage(rng, &mut body),
+        14 => body::damage(rng, &mut second),
+        15 => {
+            body::damage(rng, &mut body);
+            body::damage(rng, &mut second);
+        }
+        _ => {}
+    }
+    for body in [&mut body, &mut second] {
+        if !rng.one_in(4) && !matches!(what, 13..=15) {
+            body.bytes = damage::damaged(rng, &model::layout(&body.bytes), &body.bytes);
+        }
+    }
+    if rng.one_in(2) {
+        std::mem::swap(&mut body.bytes, &mut second.bytes);
+    }
+    Case::Merge { clock, scheme, lent, marks, file: file.bytes, body: body.bytes, second: second.bytes }
+}
+
+/// A centre, the range scale or a gate figure becomes another, or another of the same value.
+fn other_figure(rng: &mut Rng, body: &mut Body) {
+    if body.packet == Packet::P28 {
+        return odd_figure(rng, body);
+    }
+    if rng.one_in(3) {
+        let range = rng.u16();
+        return body.set16(26, range);
+    }
+    let at = body.starts[rng.below(body.starts.len())];
+    let start = u16::from_be_bytes([body.bytes[at + 2], body.bytes[at + 3]]);
+    let width = u16::from_be_bytes([body.bytes[at + 4], body.bytes[at + 5]]);
+    match rng.below(3) {
+        // the same centre
+        0 if width > 2 => {
+            body.set16(at + 2, start.wrapping_add(1));
+            body.set16(at + 4, width - 2);
+        }
+        1 => body.set16(at + 2, start.wrapping_add(3600)),
+        _ => body.set16(at + 2, start ^ 1),
+    }
+}
+
+/// Packet 28: where the gate width and the first gate stand, and each azimuth; a width stands two words after it.
+fn figures(body: &Body) -> (usize, Vec<usize>) {
+    let places = |mark: generic::Mark| body.marks.iter().filter(move |(m, _)| *m == mark).map(|(_, at)| *at);
+    let component = places(generic::Mark::ComponentType).next().expect("a component");
+    let description = u32::from_be_bytes(body.bytes[component + 4..component + 8].try_into().unwrap()) as usize;
+    (component + 8 + description.next_multiple_of(4), places(generic::Mark::Azimuth).collect())
+}
+
+/// Packet 28: a gate figure, an azimuth or a width becomes 0, -0.0, a NaN of any bits or any other float.
+fn odd_figure(rng: &mut Rng, body: &mut Body) {
+    let (gates, azimuths) = figures(body);
+    let azimuth = azimuths[rng.below(azimuths.len())];
+    let any = rng.u32();
+    let float = rng.pick(&[0, 0x8000_0000, 0x7fc0_0000, 0x7f80_0001, 0xffc0_1234, 0x437a_0000, any]);
+    let at = rng.pick(&[gates, gates + 4, azimuth, azimuth + 8]);
+    body.set32(at, float);
+}
+
+/// Packet 28: a gate figure, or an azimuth and its width, is 0 in one body and -0.0 in the other.
+fn zeros(rng: &mut Rng, bodies: [&mut Body; 2]) {
+    let (gates, azimuths) = figures(bodies[0]);
+    let azimuth = azimuths[rng.below(azimuths.len())];
+    let places = rng.pick(&[[gates; 2], [gates + 4; 2], [azimuth, azimuth + 8]]);
+    for (body, zero) in bodies.into_iter().zip([0, 0x8000_0000]) {
+        places.iter().for_each(|at| body.set32(*at, zero));
+    }
+}
+
+/// Bodies of two radials of three bins and the same figures, with rows of two kinds of codes and, but for packet 16, gaps.
+pub fn rows_of_every_kind(rng: &mut Rng, packet: Packet) -> Vec<Vec<u8>> {
+    let body = body::of_size(rng, packet, 2, 3).bytes;
+    let layout = model::layout(&body);
+    let kinds = if packet == Packet::P16 { 2 } else { 3 };
+    let mut bodies = vec![];
+    for mix in 0..kinds * kinds {
+        let mut made = body.clone();
+        for (radial, kind) in [(0, mix % kinds), (1, mix / kinds)] {
+            let data = &mut made[layout.data[radial].clone()];
+            match (packet, kind) {
+                (Packet::P28, 2) => data[..4].fill(0xff),
+                (Packet::P28, _) => data.chunks_mut(4).for_each(|word| word.copy_from_slice(&[0, 0, 0, 7 + kind as u8])),
+                (Packet::P16, _) => data.fill(7 + kind as u8),
+                (Packet::Af1f, 2) => data.fill(0),
+                (Packet::Af1f, _) => {
+                    data.fill(0);
+                    data[0] = 0x37 + kind as u8;
+                }
+            }
+        }
+        bodies.push(made);
+    }
+    bodies
 }
 
 /// A field plan that is accepted, but for odd scale fields, and its records.

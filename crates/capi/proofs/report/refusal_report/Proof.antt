@@ -314,6 +314,18 @@ enum-told-7 c = search needs
 wholes-requires-38 : tie.Need-wholes-requires-38
 wholes-requires-38 c κs = search needs
 
+enum-told-8 : tie.Need-enum-told-8
+enum-told-8 c = search needs
+
+wholes-requires-39 : tie.Need-wholes-requires-39
+wholes-requires-39 c κs = search needs
+
+enum-known-error-36 : tie.Need-enum-known-error-36
+enum-known-error-36 c = search needs
+
+wholes-requires-40 : tie.Need-wholes-requires-40
+wholes-requires-40 c κs = search needs
+
 returns : tie.Need-returns
 returns c = told (c .wholes .ensures) (c .before .enum-told .given .1)
 
@@ -440,6 +452,12 @@ returns-41 c = told (c .wholes37 .ensures) (c .before .enum-told6 .given .1)
 returns-42 : tie.Need-returns-42
 returns-42 c = told (c .wholes38 .ensures) (c .before .enum-told7 .given .1)
 
+returns-43 : tie.Need-returns-43
+returns-43 c = told (c .wholes39 .ensures) (c .before .enum-told8 .given .1)
+
+returns-44 : tie.Need-returns-44
+returns-44 c = told (c .wholes40 .ensures) (c .before .before .error36 .given .1)
+
 pub refusal-report-spec : {M : Type 1} → statement M
 refusal-report-spec =
     tie.close
@@ -547,6 +565,10 @@ refusal-report-spec =
     wholes-requires-37
     enum-told-7
     wholes-requires-38
+    enum-told-8
+    wholes-requires-39
+    enum-known-error-36
+    wholes-requires-40
     returns
     returns-2
     returns-3
@@ -588,4 +610,6 @@ refusal-report-spec =
     returns-39
     returns-40
     returns-41
-    returns-42)
+    returns-42
+    returns-43
+    returns-44)

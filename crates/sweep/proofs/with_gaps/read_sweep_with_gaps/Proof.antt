@@ -1,36 +1,10 @@
-use Rattle.sweep.proofs.GapReading.{head-refused, body-refused, Decoded, drawn-here, fill-accepts, blank-room, read}
+use Rattle.sweep.proofs.GapReading.{head-refused, begun, body-refused, rooms, read}
 use Rattle.sweep.specs.Sweep.{headReadOf}
 use Rattle.symbology.specs.Answers.{figuresOf}
-use Rattle.scale.specs.Outcome.{filledOf}
-use denote.Ref.{now}
-use lib.Seq.{length-take-le}
-use native.Mathlib.Omega.{arith}
-use mathlib.Core.Path.{refl, sym, ap, _∙_}
-use Rattle.scale.specs.Physical.{declaredScale}
-use Rattle.sweep.proofs.plan.read_head.Reads as read-head-reads
-use Rattle.sweep.proofs.plan.terms_for.Reads as terms-for-reads
-use Rattle.symbology.proofs.symbology.decode_with_gaps.Reads as decode-with-gaps-reads
-use Rattle.scale.proofs.physical.fill_physical.Reads as fill-physical-reads
-use Rattle.sweep.proofs.with_gaps.blank_gaps.Reads as blank-gaps-reads
-use Rattle.sweep.proofs.sweep.answer_of.Reads as answer-of-reads
+use mathlib.Core.Path.{sym, ap, _∙_}
 use borrow.Author.Needs.{needs}
 use Rattle.sweep.proofs.with_gaps.read_sweep_with_gaps.Statement.{statement}
 use Rattle.sweep.proofs.with_gaps.read_sweep_with_gaps.Tie as tie
-use Rattle.sweep.proofs.with_gaps.read_sweep_with_gaps.Reads as reads
-use Rattle.sweep.proofs.with_gaps.read_sweep_with_gaps.Lts as lts
-
--- where the body is accepted
-abbrev Here : Type 0
-Here = lts.After-struct-known (read-head-reads.Asked, read-head-reads.Learnt, terms-for-reads.Asked, terms-for-reads.Learnt, decode-with-gaps-reads.Asked, decode-with-gaps-reads.Learnt, fill-physical-reads.Asked, fill-physical-reads.Learnt, blank-gaps-reads.Asked, blank-gaps-reads.Learnt, answer-of-reads.Asked, answer-of-reads.Learnt) reads.Pre reads.Post
-
-here : (c : Here) → Decoded (c .before .before .before .before .before .before .before .before .before .before .before .before .before .before .before .before .before .before .before .before .before .before .before .before .before .args .scheme) (now (c .before .before .before .before .before .before .before .before .before .before .before .before .before .before .before .before .before .before .before .before .before .before .before .before .before .args .file)) (c .before .before .before .before .before .before .before .before .before .before .before .before .before .before .before .before .before .before .before .before .before .before .before .before .before .args .clock) (now (c .before .before .before .before .before .before .before .before .before .before .before .before .before .before .before .before .before .before .before .before .before .before .before .before .before .args .body)) (now (c .before .before .before .before .before .before .before .before .before .before .before .before .before .before .before .before .before .before .before .before .before .before .before .before .before .args .azimuths)) (now (c .before .before .before .before .before .before .before .before .before .before .before .before .before .before .before .before .before .before .before .before .before .before .before .before .before .args .codes)) (now (c .before .before .before .before .before .before .before .before .before .before .before .before .before .before .before .before .before .before .before .before .before .before .before .before .before .args .physical)) (now (c .before .before .before .before .before .before .before .before .before .before .before .before .before .before .before .before .before .before .before .before .before .before .before .before .before .args .marks)) (c .before .before .before .before .before .before .before .before .before .before .before .before .before .before .before .before .h .given .0 .0) (declaredScale (c .before .before .before .before .before .before .before .before .before .before .before .before .before .before .before .before .h .given .0 .0 .scaling)) (c .before .before .before .before .before .before .before .before .before .before .before .before .before .before .terms-for .result) (c .before .before .f .given .0 .0)
-here c =
-    record {
-      head-is = ap headReadOf (sym (c .before .before .before .before .before .before .before .before .before .before .before .before .before .before .before .before .h .given .1)) ∙ c .before .before .before .before .before .before .before .before .before .before .before .before .before .before .before .before .before .before .read-head .ensures;
-      declared-is = refl;
-      terms-are = c .before .before .before .before .before .before .before .before .before .before .before .before .before .before .terms-for .ensures;
-      figures-are = ap figuresOf (sym (c .before .before .f .given .1)) ∙ c .before .before .before .before .before .before .before .before .before .before .decode-with-gaps .ensures .answered;
-    }
 
 read-head-requires : tie.Need-read-head-requires
 read-head-requires c κs = search needs
@@ -66,22 +40,10 @@ same-length-3 : tie.Need-same-length-3
 same-length-3 c = search needs
 
 returns-2 : tie.Need-returns-2
-returns-2 c = body-refused _ _ _ _ (now (c .before .before .before .before .before .before .before .before .before .before .before .before .before .before .before .before .before .before .before .before .before .before .before .before .args .azimuths)) (now (c .before .before .before .before .before .before .before .before .before .before .before .before .before .before .before .before .before .before .before .before .before .before .before .before .args .codes)) (now (c .before .before .before .before .before .before .before .before .before .before .before .before .before .before .before .before .before .before .before .before .before .before .before .before .args .physical)) (now (c .before .before .before .before .before .before .before .before .before .before .before .before .before .before .before .before .before .before .before .before .before .before .before .before .args .marks)) (c .before .before .before .before .before .before .before .before .before .before .before .before .before .before .before .h .given .0 .0) (declaredScale (c .before .before .before .before .before .before .before .before .before .before .before .before .before .before .before .h .given .0 .0 .scaling)) (c .before .before .before .before .before .before .before .before .before .before .before .before .before .terms-for .result) (ap headReadOf (sym (c .before .before .before .before .before .before .before .before .before .before .before .before .before .before .before .h .given .1)) ∙ c .before .before .before .before .before .before .before .before .before .before .before .before .before .before .before .before .before .read-head .ensures) refl (c .before .before .before .before .before .before .before .before .before .before .before .before .before .terms-for .ensures) (c .before .e2 .given .1) (c .before .before .before .before .before .before .before .before .before .decode-with-gaps .ensures)
+returns-2 c = body-refused (begun _ _ _ _ (c .before .before .before .before .before .before .before .before .before .before .before .before .before .before .before .before .before .before .before .before .before .before .before .before .args .azimuths .now) (c .before .before .before .before .before .before .before .before .before .before .before .before .before .before .before .before .before .before .before .before .before .before .before .before .args .codes .now) (c .before .before .before .before .before .before .before .before .before .before .before .before .before .before .before .before .before .before .before .before .before .before .before .before .args .physical .now) (c .before .before .before .before .before .before .before .before .before .before .before .before .before .before .before .before .before .before .before .before .before .before .before .before .args .marks .now) _ (ap headReadOf (sym (c .before .before .before .before .before .before .before .before .before .before .before .before .before .before .before .h .given .1)) ∙ c .before .before .before .before .before .before .before .before .before .before .before .before .before .before .before .before .before .read-head .ensures) (c .before .before .before .before .before .before .before .before .before .before .before .before .before .terms-for .ensures)) (c .before .e2 .given .1) (c .before .before .before .before .before .before .before .before .before .decode-with-gaps .ensures)
 
-mul-cells : tie.Need-mul-cells
-mul-cells c = record { fits = omega (arith, drawn-here (here (c)) .admitted .codes-room, c .before .before .before .before .before .before .before .before .before .before .before .before .before .before .before .before .before .before .before .before .before .before .before .before .before .good .1 .1 .1 .1 .1 .0) }
-
-slice-reshare-prefix-fill-physical : tie.Need-slice-reshare-prefix-fill-physical
-slice-reshare-prefix-fill-physical c = search (needs, drawn-here (here (c)) .admitted .codes-room)
-
-slice-aggregate-fill-physical : tie.Need-slice-aggregate-fill-physical
-slice-aggregate-fill-physical c = sym (length-take-le _ _ (slice-reshare-prefix-fill-physical (c .before)))
-
-fill-physical-requires : tie.Need-fill-physical-requires
-fill-physical-requires c κs = search needs
-
-enum-known-e-3 : tie.Need-enum-known-e-3
-enum-known-e-3 c = search needs
+fill-values-requires : tie.Need-fill-values-requires
+fill-values-requires c κs = rooms (record { begun = begun _ _ _ _ (c .before .before .before .before .before .before .before .before .before .before .before .before .before .before .before .before .before .before .before .before .before .before .before .before .before .before .before .args .azimuths .now) (c .before .before .before .before .before .before .before .before .before .before .before .before .before .before .before .before .before .before .before .before .before .before .before .before .before .before .before .args .codes .now) (c .before .before .before .before .before .before .before .before .before .before .before .before .before .before .before .before .before .before .before .before .before .before .before .before .before .before .before .args .physical .now) (c .before .before .before .before .before .before .before .before .before .before .before .before .before .before .before .before .before .before .before .before .before .before .before .before .before .before .before .args .marks .now) _ (ap headReadOf (sym (c .before .before .before .before .before .before .before .before .before .before .before .before .before .before .before .before .before .before .h .given .1)) ∙ c .before .before .before .before .before .before .before .before .before .before .before .before .before .before .before .before .before .before .before .before .read-head .ensures) (c .before .before .before .before .before .before .before .before .before .before .before .before .before .before .before .before .terms-for .ensures); figures-are = ap figuresOf (sym (c .before .before .before .before .f .given .1)) ∙ c .before .before .before .before .before .before .before .before .before .before .before .before .decode-with-gaps .ensures .answered }) (c .before .before .before .before .before .before .before .before .before .before .before .before .decode-with-gaps .ensures .codes) (c .before .before .before .before .before .before .before .before .before .before .before .before .decode-with-gaps .ensures .marks)
 
 same-length-4 : tie.Need-same-length-4
 same-length-4 c = search needs
@@ -96,37 +58,7 @@ same-length-7 : tie.Need-same-length-7
 same-length-7 c = search needs
 
 returns-3 : tie.Need-returns-3
-returns-3 c = fill-accepts (here (c .before .before .before .before .before .before .before .before)) (c .before .before .before .before .before .before .before .before .before .before .before .before .before .before .before .before .before .before .decode-with-gaps .ensures .codes) (c .before .before .before .before .before .before .before .before .before .before .before .before .before .before .before .before .before .before .decode-with-gaps .ensures .marks) (ap filledOf (sym (c .before .e3 .given .1)) ∙ c .before .before .before .before .before .fill-physical .ensures .0)
-
-enum-told : tie.Need-enum-told
-enum-told c = search needs
-
-slice-reshare-prefix-blank-gaps : tie.Need-slice-reshare-prefix-blank-gaps
-slice-reshare-prefix-blank-gaps c = search (needs, drawn-here (here (c .before .before .before .before .before .before .before)) .marks-room)
-
-slice-aggregate-blank-gaps : tie.Need-slice-aggregate-blank-gaps
-slice-aggregate-blank-gaps c = sym (length-take-le _ _ (slice-reshare-prefix-blank-gaps (c .before)))
-
-blank-gaps-requires : tie.Need-blank-gaps-requires
-blank-gaps-requires c κs = blank-room (here (c .before .before .before .before .before .before .before .before .before)) (c .before .before .before .before .before .before .before .before .before .before .before .before .before .before .before .before .before .before .before .decode-with-gaps .ensures .codes) (c .before .before .before .before .before .before .before .before .before .before .before .before .before .before .before .before .before .before .before .decode-with-gaps .ensures .marks) (c .before .before .before .before .before .before .fill-physical .ensures .1)
-
-answer-of-requires : tie.Need-answer-of-requires
-answer-of-requires c κs = search needs
-
-same-length-8 : tie.Need-same-length-8
-same-length-8 c = search needs
-
-same-length-9 : tie.Need-same-length-9
-same-length-9 c = search needs
-
-same-length-10 : tie.Need-same-length-10
-same-length-10 c = search needs
-
-same-length-11 : tie.Need-same-length-11
-same-length-11 c = search needs
-
-returns-4 : tie.Need-returns-4
-returns-4 c = read (here (c .before .before .before .before .before .before .before .before .before .before .before .before .before)) (c .before .before .before .before .before .before .before .before .before .before .before .before .before .before .before .before .before .before .before .before .before .before .before .decode-with-gaps .ensures .codes) (c .before .before .before .before .before .before .before .before .before .before .before .before .before .before .before .before .before .before .before .before .before .before .before .decode-with-gaps .ensures .marks) (c .answer-of .ensures) (c .before .before .before .before .before .before .before .before .before .before .before .before .before .before .before .before .before .before .before .before .before .before .before .decode-with-gaps .ensures .azimuths) (c .before .before .before .before .before .before .before .before .before .before .fill-physical .ensures .1) (c .before .before .before .blank-gaps .ensures)
+returns-3 c = read (record { begun = begun _ _ _ _ (c .before .before .before .before .before .before .before .before .before .before .before .before .before .before .before .before .before .before .before .before .before .before .before .before .before .before .before .before .before .before .args .azimuths .now) (c .before .before .before .before .before .before .before .before .before .before .before .before .before .before .before .before .before .before .before .before .before .before .before .before .before .before .before .before .before .before .args .codes .now) (c .before .before .before .before .before .before .before .before .before .before .before .before .before .before .before .before .before .before .before .before .before .before .before .before .before .before .before .before .before .before .args .physical .now) (c .before .before .before .before .before .before .before .before .before .before .before .before .before .before .before .before .before .before .before .before .before .before .before .before .before .before .before .before .before .before .args .marks .now) _ (ap headReadOf (sym (c .before .before .before .before .before .before .before .before .before .before .before .before .before .before .before .before .before .before .before .before .before .h .given .1)) ∙ c .before .before .before .before .before .before .before .before .before .before .before .before .before .before .before .before .before .before .before .before .before .before .before .read-head .ensures) (c .before .before .before .before .before .before .before .before .before .before .before .before .before .before .before .before .before .before .before .terms-for .ensures); figures-are = ap figuresOf (sym (c .before .before .before .before .before .before .before .f .given .1)) ∙ c .before .before .before .before .before .before .before .before .before .before .before .before .before .before .before .decode-with-gaps .ensures .answered }) (c .before .before .before .before .before .before .before .before .before .before .before .before .before .before .before .decode-with-gaps .ensures .codes) (c .before .before .before .before .before .before .before .before .before .before .before .before .before .before .before .decode-with-gaps .ensures .marks) (c .before .before .fill-values .ensures .0) (c .before .before .before .before .before .before .before .before .before .before .before .before .before .before .before .decode-with-gaps .ensures .azimuths) (c .before .before .fill-values .ensures .1)
 
 pub read-sweep-with-gaps-spec : {M : Type 1} → statement M
 read-sweep-with-gaps-spec =
@@ -144,23 +76,9 @@ read-sweep-with-gaps-spec =
     same-length-2
     same-length-3
     returns-2
-    mul-cells
-    slice-reshare-prefix-fill-physical
-    slice-aggregate-fill-physical
-    fill-physical-requires
-    enum-known-e-3
+    fill-values-requires
     same-length-4
     same-length-5
     same-length-6
     same-length-7
-    returns-3
-    enum-told
-    slice-reshare-prefix-blank-gaps
-    slice-aggregate-blank-gaps
-    blank-gaps-requires
-    answer-of-requires
-    same-length-8
-    same-length-9
-    same-length-10
-    same-length-11
-    returns-4)
+    returns-3)

@@ -1,5 +1,5 @@
 use mathlib.Core.Path.{sym, _∙_}
-use Rattle.symbology.proofs.Decode.{plan-refused, plan-value, was-admitted, admit-room, radials-there}
+use Rattle.symbology.proofs.Decode.{plan-refused, plan-value, was-passed, admit-room, radials-there}
 use Rattle.symbology.proofs.GapDecode.{in-refused, in-no-marks, in-is, marks-room}
 use borrow.Author.Needs.{needs}
 use Rattle.symbology.proofs.symbology.decode_in.Statement.{statement}
@@ -30,7 +30,7 @@ part-write-radials-end : tie.Need-part-write-radials-end
 part-write-radials-end c = (plan-value _ _ _ (c .before .before .before .before .before .plan-for .ensures) (c .before .before .before .figures .given .1)) .inside
 
 write-radials-requires : tie.Need-write-radials-requires
-write-radials-requires c κs = let p = (plan-value _ _ _ (c .before .before .before .before .before .before .before .before .before .plan-for .ensures) (c .before .before .before .before .before .before .before .figures .given .1)) in let room = admit-room _ _ _ _ (was-admitted _ _ _ _ p) in ((p .small, (p .radials, radials-there _ _ p)), (room .0, room .1, marks-room _ _ _ (sym (c .before .before .before .before .before .no-marks .ensures) ∙ c .before .before .before .before .if1 .left)))
+write-radials-requires c κs = let p = (plan-value _ _ _ (c .before .before .before .before .before .before .before .before .before .plan-for .ensures) (c .before .before .before .before .before .before .before .figures .given .1)) in let room = admit-room _ _ _ _ (was-passed _ _ p) in ((p .small, (p .radials, radials-there _ _ p)), (room .0, room .1, marks-room _ _ _ (sym (c .before .before .before .before .before .no-marks .ensures) ∙ c .before .before .before .before .if1 .left)))
 
 returns-2 : tie.Need-returns-2
 returns-2 c = in-refused _ _ _ _ _ _ _ (plan-refused _ _ _ (c .before .before .before .plan-for .ensures) (c .before .error .given .1))

@@ -5,8 +5,8 @@ use Prim.Native.Nat.{_-_}
 use native.Mathlib.Omega.{arith}
 use borrow.Author.Needs.{needs}
 use Rattle.sweep.proofs.Blanking.{Blank, blank-first, blank-turn, blank-end}
-use Rattle.sweep.proofs.with_gaps.blank.Statement.{statement}
-use Rattle.sweep.proofs.with_gaps.blank.Tie as tie
+use Rattle.sweep.proofs.gap_values.blank.Statement.{statement}
+use Rattle.sweep.proofs.gap_values.blank.Tie as tie
 
 abbrev Inv-loop : tie.InvT-loop
 Inv-loop row₀ v i₀ row i = Blank (length row₀) v row i

@@ -3,8 +3,8 @@ use Prim.Native.Nat.{_-_}
 use native.Mathlib.Omega.{arith}
 use borrow.Author.Needs.{needs}
 use Rattle.sweep.proofs.Blanking.{Blanked, blanked-first, blanked-room, blanked-turn, blanked-end}
-use Rattle.sweep.proofs.with_gaps.blank_gaps.Statement.{statement}
-use Rattle.sweep.proofs.with_gaps.blank_gaps.Tie as tie
+use Rattle.sweep.proofs.gap_values.blank_gaps.Statement.{statement}
+use Rattle.sweep.proofs.gap_values.blank_gaps.Tie as tie
 
 abbrev Inv-loop : tie.InvT-loop
 Inv-loop marks n-bins physical₀ cell₀ r₀ physical cell r = Blanked n-bins marks physical₀ physical cell r

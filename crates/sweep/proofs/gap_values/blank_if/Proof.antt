@@ -1,7 +1,7 @@
 use Rattle.sweep.proofs.Blanking.{row-marked, row-unmarked}
 use borrow.Author.Needs.{needs}
-use Rattle.sweep.proofs.with_gaps.blank_if.Statement.{statement}
-use Rattle.sweep.proofs.with_gaps.blank_if.Tie as tie
+use Rattle.sweep.proofs.gap_values.blank_if.Statement.{statement}
+use Rattle.sweep.proofs.gap_values.blank_if.Tie as tie
 
 blank-requires : tie.Need-blank-requires
 blank-requires c κs = search needs
