@@ -1,4 +1,4 @@
-/* The NEXRAD Level III reader. Link with libcapi.a, which `rt staticlib capi` writes to target/staticlib, and with -lm.
+/* The NEXRAD Level III reader. Link with libcapi.a, which `tools/staticlib` writes to target/staticlib, and with -lm.
  *
  * No function allocates, keeps anything between calls, reads a file or looks at a clock. Each returns on every input and reads and
  * writes only inside the arrays that it is given. An array passes as a pointer and a length in elements; its pointer must not be null,

@@ -26,7 +26,7 @@ pub fn need_port() -> Entries {
     linked().unwrap_or_else(|| {
         eprintln!("the port is not at hand");
         eprintln!(
-            "run `rt staticlib capi` at the repository's root (or set L3_PORT to the folder of libcapi.a), and build again"
+            "run `tools/staticlib` at the repository's root (or set L3_PORT to the folder of libcapi.a), and build again"
         );
         exit(2)
     })

@@ -4,7 +4,6 @@ use Rattle.wire.specs.Refusal.{kind, nat, whole, refusal_of}
 use Rattle.wire.specs.Result.{Result, accepted, refused, refuse}
 use Rattle.calendar.specs.declared.date.Date.{Date}
 use Rattle.calendar.specs.declared.date.DateRead.{DateRead}
-use Rattle.calendar.specs.declared.date.DateRead.TheVariants as DateRead
 
 -- a year that 4 divides is a leap year; one that 100 divides, only where 400 does
 unfoldable pub leap : ℕ → Bool

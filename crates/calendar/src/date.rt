@@ -5,14 +5,14 @@ ghost use Rattle.calendar.specs.Calendar.{InMonth, date_of, date_read};
 use crate::starts::month_start;
 use wire::error::Level3DecodeError;
 
-#[derive(Drop)]
+#[derive(Clone, Copy)]
 pub struct Date {
     pub year: u16,
     pub month: u8,
     pub day: u8,
 }
 
-#[derive(Drop)]
+#[derive(Clone, Copy)]
 pub enum DateRead {
     Value(Date),
     Refused(Level3DecodeError),

@@ -12,7 +12,6 @@ use Rattle.capi.specs.Report.{report_of, ended_report, Said, said, failed, sayin
 use Rattle.capi.specs.Places.{no_report}
 use Rattle.scale.specs.declared.physical.Scheme.{Scheme}
 use Rattle.capi.specs.declared.sweeps.Asked.{Asked}
-use Rattle.capi.specs.declared.sweeps.Asked.TheVariants as Asked
 use Rattle.capi.specs.Entries.{threshold_said, levels_said, codes_said, scheme_said, asked_of}
 
 -- an arm of a match on an answer: x turned out to be x'

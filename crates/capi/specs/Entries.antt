@@ -9,7 +9,6 @@ use Rattle.scale.specs.Pdb.{threshold_place}
 use Rattle.scale.specs.Legacy.{levels_of}
 use Rattle.scale.specs.Physical.{fill_of}
 use Rattle.scale.specs.declared.physical.Scheme.{Scheme}
-use Rattle.scale.specs.declared.physical.Scheme.TheVariants as Scheme
 use Rattle.symbology.specs.Answers.{Picture, figures_in}
 use Rattle.sweep.specs.Sweep.{Accepted, sweep_in, Buffers, read_into}
 use Rattle.sweep.specs.GapSweep.{GapSweep, gap_sweep_in, GapBuffers, gaps_into}
@@ -21,7 +20,6 @@ use Rattle.xdr.specs.Answers.{done, string_part, array_part}
 use Rattle.xdr.specs.Each.{uint_at, float_at, string_at, array_at, head_at, list_at, end_at}
 use Rattle.capi.specs.declared.report.Report.{Report}
 use Rattle.capi.specs.declared.sweeps.Asked.{Asked}
-use Rattle.capi.specs.declared.sweeps.Asked.TheVariants as Asked
 use Rattle.capi.specs.Report.{report_of, ended_report, Said, said, failed, saying, choice, room_first, Leaves, lent_by}
 use Rattle.capi.specs.Places.{no_report, number_report, signed_report, float_report, pair_report, part_report, u16_report, i16_report, i32_report, figures_report, sweep_report, totals_report}
 

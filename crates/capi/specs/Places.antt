@@ -16,16 +16,13 @@ use Rattle.head.specs.declared.pdb.PdbFields.{PdbFields}
 use Rattle.scale.specs.declared.scaling.LinearScale.{LinearScale}
 use Rattle.scale.specs.declared.scaling.PrecipScale.{PrecipScale}
 use Rattle.scale.specs.declared.scaling.Ceiling.{Ceiling}
-use Rattle.scale.specs.declared.scaling.Ceiling.TheVariants as Ceiling
 use Rattle.scale.specs.declared.physical.Declared.{Declared}
-use Rattle.scale.specs.declared.physical.Declared.TheVariants as Declared
 use Rattle.sweep.specs.declared.sweep.Sweep.{Sweep}
 use Rattle.fields.specs.declared.fields.SweepTotals.{SweepTotals}
 use Rattle.symbology.specs.declared.figures.Figures.{Figures}
 use Rattle.symbology.specs.declared.figures.Packet.{Packet}
 use Rattle.symbology.specs.declared.figures.Packet.TheVariants.{Packet16, PacketAf1f, Packet28}
 use Rattle.symbology.specs.declared.figures.Geometry.{Geometry}
-use Rattle.symbology.specs.declared.figures.Geometry.TheVariants as Geometry
 use Rattle.xdr.specs.declared.xdr.Part.{Part}
 use Rattle.capi.specs.declared.report.Report.{Report}
 use Rattle.capi.specs.declared.places.HeadPlaces.{HeadPlaces}

@@ -7,7 +7,6 @@ use Rattle.wire.specs.Reading.{Ended, passed, halted}
 use Rattle.wire.specs.declared.error.XdrItem.{XdrItem}
 use Rattle.wire.specs.declared.error.XdrItem.TheVariants as Item
 use Rattle.wire.specs.declared.error.Buffer.{Buffer}
-use Rattle.wire.specs.declared.error.Buffer.TheVariants as Buffer
 use Rattle.capi.specs.declared.report.Report.{Report}
 
 -- ---- a report

@@ -28,8 +28,7 @@ fn figures_report(r: FiguresRead) -> Report
     }
 }
 
-#[unsafe(no_mangle)]
-pub extern "C" fn l3_trailing(bytes: &[u8], ints: &mut [u64], floats: &mut [f64]) -> u32
+pub fn l3_trailing(bytes: &[u8], ints: &mut [u64], floats: &mut [f64]) -> u32
     ensures { Leaves (said (report_of (trailing bytes.now) no_report))
         result ints.old ints.new floats.old floats.new }
 {
@@ -37,8 +36,7 @@ pub extern "C" fn l3_trailing(bytes: &[u8], ints: &mut [u64], floats: &mut [f64]
     write_report(check_report(answer), ints, floats)
 }
 
-#[unsafe(no_mangle)]
-pub extern "C" fn l3_symbology(
+pub fn l3_symbology(
     body: &[u8],
     azimuths: &mut [f64],
     codes: &mut [u16],

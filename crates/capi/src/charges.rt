@@ -22,8 +22,7 @@ fn charge_report(r: ChargeRead) -> Report
     }
 }
 
-#[unsafe(no_mangle)]
-pub extern "C" fn l3_charge(
+pub fn l3_charge(
     total: u64,
     ends: &[u64],
     rates: &[u32],

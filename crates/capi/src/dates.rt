@@ -22,8 +22,7 @@ fn date_report(r: DateRead) -> Report
     }
 }
 
-#[unsafe(no_mangle)]
-pub extern "C" fn l3_date(days: u16, ints: &mut [u64], floats: &mut [f64]) -> u32
+pub fn l3_date(days: u16, ints: &mut [u64], floats: &mut [f64]) -> u32
     ensures { Leaves (said (report_of (date_of days) date_report))
         result ints.old ints.new floats.old floats.new }
 {

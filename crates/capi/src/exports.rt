@@ -17,13 +17,7 @@ fn length_report(r: ExportAnswer) -> Report
     }
 }
 
-#[unsafe(no_mangle)]
-pub extern "C" fn l3_export16(
-    body: &[u8],
-    output: &mut [u8],
-    ints: &mut [u64],
-    floats: &mut [f64],
-) -> u32
+pub fn l3_export16(body: &[u8], output: &mut [u8], ints: &mut [u64], floats: &mut [f64]) -> u32
     ensures { ExportLeaves (export_of body.now) result output.old output.new
         ints.old ints.new floats.old floats.new }
 {

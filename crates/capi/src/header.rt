@@ -26,8 +26,7 @@ fn time_report(r: TimeRead) -> Report
     }
 }
 
-#[unsafe(no_mangle)]
-pub extern "C" fn l3_token(file: &[u8], ints: &mut [u64], floats: &mut [f64]) -> u32
+pub fn l3_token(file: &[u8], ints: &mut [u64], floats: &mut [f64]) -> u32
     ensures { Leaves (said (report_of (token file.now) number_report))
         result ints.old ints.new floats.old floats.new }
 {
@@ -35,8 +34,7 @@ pub extern "C" fn l3_token(file: &[u8], ints: &mut [u64], floats: &mut [f64]) ->
     write_report(place_report(answer), ints, floats)
 }
 
-#[unsafe(no_mangle)]
-pub extern "C" fn l3_message_header(file: &[u8], ints: &mut [u64], floats: &mut [f64]) -> u32
+pub fn l3_message_header(file: &[u8], ints: &mut [u64], floats: &mut [f64]) -> u32
     ensures { Leaves (said (report_of (message_header file.now) number_report))
         result ints.old ints.new floats.old floats.new }
 {
@@ -44,8 +42,7 @@ pub extern "C" fn l3_message_header(file: &[u8], ints: &mut [u64], floats: &mut 
     write_report(place_report(answer), ints, floats)
 }
 
-#[unsafe(no_mangle)]
-pub extern "C" fn l3_scan_time(
+pub fn l3_scan_time(
     days: u16,
     seconds: i32,
     clock: u64,

@@ -67,14 +67,7 @@ fn step_report(r: Step) -> Report
     }
 }
 
-#[unsafe(no_mangle)]
-pub extern "C" fn l3_xdr(
-    op: u32,
-    payload: &[u8],
-    at: usize,
-    ints: &mut [u64],
-    floats: &mut [f64],
-) -> u32
+pub fn l3_xdr(op: u32, payload: &[u8], at: usize, ints: &mut [u64], floats: &mut [f64]) -> u32
     ensures { Leaves (xdr_said op payload.now at) result ints.old ints.new floats.old floats.new }
 {
     if op == 0 {
@@ -104,8 +97,7 @@ pub extern "C" fn l3_xdr(
     bad_argument(ints.len(), floats.len())
 }
 
-#[unsafe(no_mangle)]
-pub extern "C" fn l3_items(item: u32, payload: &[u8], ints: &mut [u64], floats: &mut [f64]) -> u32
+pub fn l3_items(item: u32, payload: &[u8], ints: &mut [u64], floats: &mut [f64]) -> u32
     ensures { Leaves (items_said item payload.now) result ints.old ints.new floats.old floats.new }
 {
     let read = xdr::each::read_each(payload);

@@ -1,4 +1,6 @@
 // The reader behind C functions. l3.h says what each one takes, returns and writes.
+#![tactic(auto)]
+
 pub mod body;
 pub mod charges;
 mod copies;

@@ -68,8 +68,7 @@ fn fields_report(r: FieldsRead) -> Report
     }
 }
 
-#[unsafe(no_mangle)]
-pub extern "C" fn l3_field(
+pub fn l3_field(
     file: &[u8],
     block: usize,
     index: usize,
@@ -99,8 +98,7 @@ pub extern "C" fn l3_field(
     bad_argument(ints.len(), floats.len())
 }
 
-#[unsafe(no_mangle)]
-pub extern "C" fn l3_pdb(file: &[u8], block: usize, ints: &mut [u64], floats: &mut [f64]) -> u32
+pub fn l3_pdb(file: &[u8], block: usize, ints: &mut [u64], floats: &mut [f64]) -> u32
     ensures { Leaves (said (report_of (pdb_fields file.now block) fields_report))
         result ints.old ints.new floats.old floats.new }
 {

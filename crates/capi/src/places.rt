@@ -12,7 +12,7 @@ use scale::scaling::{Ceiling, LinearScale, PrecipScale};
 use sweep::sweep::Sweep;
 use symbology::figures::{Figures, Geometry, Packet};
 
-#[derive(Drop)]
+#[derive(Clone, Copy)]
 pub struct HeadPlaces {
     pub token: u64,
     pub code: u64,
@@ -30,7 +30,7 @@ pub struct HeadPlaces {
     pub elevation: f64,
 }
 
-#[derive(Drop)]
+#[derive(Clone, Copy)]
 pub struct PicturePlaces {
     pub packet: u64,
     pub radials: u64,
@@ -40,7 +40,7 @@ pub struct PicturePlaces {
     pub first: f64,
 }
 
-#[derive(Drop)]
+#[derive(Clone, Copy)]
 pub struct ScalePlaces {
     pub declared: u64,
     pub levels: u64,

@@ -4,8 +4,7 @@ ghost use Rattle.wire.specs.Products.{known};
 ghost use Rattle.capi.specs.Report.{plain_number, plain_after};
 ghost use Rattle.capi.specs.Entries.{codes_said};
 
-#[unsafe(no_mangle)]
-pub extern "C" fn l3_known(code: i16) -> u32
+pub fn l3_known(code: i16) -> u32
     ensures { result ≡ (if known code then 1 else 0) }
 {
     if wire::products::is_known_message_code(code) {
@@ -15,8 +14,7 @@ pub extern "C" fn l3_known(code: i16) -> u32
     }
 }
 
-#[unsafe(no_mangle)]
-pub extern "C" fn l3_codes(table: &mut [u16]) -> u32
+pub fn l3_codes(table: &mut [u16]) -> u32
     ensures value { result ≡ plain_number (codes_said (length table.old)) }
     ensures table_after { table.new ≡ plain_after (codes_said (length table.old)) table.old }
 {

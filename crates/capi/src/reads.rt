@@ -34,14 +34,7 @@ fn i32_report(r: I32Read) -> Report
     }
 }
 
-#[unsafe(no_mangle)]
-pub extern "C" fn l3_read(
-    kind: u32,
-    bytes: &[u8],
-    offset: usize,
-    ints: &mut [u64],
-    floats: &mut [f64],
-) -> u32
+pub fn l3_read(kind: u32, bytes: &[u8], offset: usize, ints: &mut [u64], floats: &mut [f64]) -> u32
     ensures { Leaves (read_said kind bytes.now offset)
         result ints.old ints.new floats.old floats.new }
 {

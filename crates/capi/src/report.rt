@@ -11,7 +11,7 @@ pub(crate) const INTS: usize = 24;
 const FLOATS: usize = 8;
 
 // 0 and an accepted value's places, or a refusal's number and its values. Other places hold 0.
-#[derive(Drop)]
+#[derive(Clone, Copy)]
 pub struct Report {
     pub number: u32,
     pub ints: [u64; INTS],

@@ -49,8 +49,7 @@ fn filled_report(r: Filled) -> Report
     }
 }
 
-#[unsafe(no_mangle)]
-pub extern "C" fn l3_linear(file: &[u8], block: usize, ints: &mut [u64], floats: &mut [f64]) -> u32
+pub fn l3_linear(file: &[u8], block: usize, ints: &mut [u64], floats: &mut [f64]) -> u32
     ensures { Leaves (said (report_of (value_scaling_linear_hw file.now block) linear_report))
         result ints.old ints.new floats.old floats.new }
 {
@@ -58,8 +57,7 @@ pub extern "C" fn l3_linear(file: &[u8], block: usize, ints: &mut [u64], floats:
     write_report(linear_report(answer), ints, floats)
 }
 
-#[unsafe(no_mangle)]
-pub extern "C" fn l3_float(file: &[u8], block: usize, ints: &mut [u64], floats: &mut [f64]) -> u32
+pub fn l3_float(file: &[u8], block: usize, ints: &mut [u64], floats: &mut [f64]) -> u32
     ensures { Leaves (said (report_of (value_scaling_float file.now block) linear_report))
         result ints.old ints.new floats.old floats.new }
 {
@@ -67,8 +65,7 @@ pub extern "C" fn l3_float(file: &[u8], block: usize, ints: &mut [u64], floats: 
     write_report(linear_report(answer), ints, floats)
 }
 
-#[unsafe(no_mangle)]
-pub extern "C" fn l3_precip(
+pub fn l3_precip(
     file: &[u8],
     block: usize,
     factor: f32,
@@ -95,8 +92,7 @@ fn lend_thresholds(at: Place, bytes: &[u8; 32], thresholds: &mut [u8])
     }
 }
 
-#[unsafe(no_mangle)]
-pub extern "C" fn l3_threshold(
+pub fn l3_threshold(
     file: &[u8],
     block: usize,
     thresholds: &mut [u8],
@@ -122,8 +118,7 @@ pub extern "C" fn l3_threshold(
     write_report(found_report(at), ints, floats)
 }
 
-#[unsafe(no_mangle)]
-pub extern "C" fn l3_legacy16(thresholds: &[u8], post_scale: f32, levels: &mut [f32]) -> u32
+pub fn l3_legacy16(thresholds: &[u8], post_scale: f32, levels: &mut [f32]) -> u32
     ensures value { result ≡ plain_number (levels_said thresholds.now post_scale (length levels.old)) }
     ensures levels_after { levels.new
         ≡ plain_after (levels_said thresholds.now post_scale (length levels.old)) levels.old }
@@ -141,8 +136,7 @@ pub extern "C" fn l3_legacy16(thresholds: &[u8], post_scale: f32, levels: &mut [
     0
 }
 
-#[unsafe(no_mangle)]
-pub extern "C" fn l3_physical(
+pub fn l3_physical(
     file: &[u8],
     block: usize,
     scheme: u32,

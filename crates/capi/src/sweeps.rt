@@ -13,7 +13,7 @@ use scale::physical::Scheme;
 use sweep::sweep::SweepAnswer;
 
 // The scheme that is asked for, or the number with which an entry fails.
-#[derive(Drop)]
+#[derive(Clone, Copy)]
 pub enum Asked {
     Known(Scheme),
     Failed(u32),
@@ -70,8 +70,7 @@ fn totals_report(r: TotalsAnswer) -> Report
     }
 }
 
-#[unsafe(no_mangle)]
-pub extern "C" fn l3_sweep(
+pub fn l3_sweep(
     file: &[u8],
     clock: u64,
     scheme: u32,
@@ -96,8 +95,7 @@ pub extern "C" fn l3_sweep(
     write_report(sweep_report(answer), ints, floats)
 }
 
-#[unsafe(no_mangle)]
-pub extern "C" fn l3_gaps(
+pub fn l3_gaps(
     file: &[u8],
     clock: u64,
     scheme: u32,
@@ -125,8 +123,7 @@ pub extern "C" fn l3_gaps(
     write_report(sweep_report(answer), ints, floats)
 }
 
-#[unsafe(no_mangle)]
-pub extern "C" fn l3_merge(
+pub fn l3_merge(
     file: &[u8],
     clock: u64,
     scheme: u32,
@@ -155,8 +152,7 @@ pub extern "C" fn l3_merge(
     write_report(sweep_report(answer), ints, floats)
 }
 
-#[unsafe(no_mangle)]
-pub extern "C" fn l3_totals(
+pub fn l3_totals(
     file: &[u8],
     clock: u64,
     scheme: u32,

@@ -1,7 +1,6 @@
 -- The round trip for calls of the code: whatever arguments, answers and final buffers the contracts of `export_packet16` and `read_sweep`
 -- allow. Assumes nothing.
 use Prim.Native.Nat.{ℕ}
-use native.Mathlib.Omega.{arith}
 use mathlib.Core.List.{List}
 use mathlib.Core.Path.{◌≡◌, refl, sym, ap, ◌∙◌}
 use lib.ListN.{length, take, drop}

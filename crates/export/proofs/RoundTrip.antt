@@ -15,7 +15,6 @@ use Rattle.wire.proofs.Runs.{run_parts, plain_passed}
 use Rattle.scale.specs.Physical.{declared_scale, physical_of}
 use Rattle.scale.specs.declared.physical.Declared.{Declared}
 use Rattle.scale.specs.declared.physical.Scheme.{Scheme}
-use Rattle.scale.specs.declared.physical.Scheme.TheVariants as Scheme
 use Rattle.symbology.specs.Answers.{Picture, picture_of, joined}
 use Rattle.symbology.specs.Symbology.{Beam, Header, Sweep, symbology}
 use Rattle.symbology.specs.Walk.{sweep_from}

@@ -10,7 +10,6 @@ use Rattle.symbology.specs.Rows.{row_of}
 use Rattle.symbology.specs.Symbology.{Beam, Header, covered, counts, frame, with_code}
 use Rattle.symbology.specs.declared.figures.Packet.TheVariants.{PacketAf1f}
 use Rattle.export.specs.declared.export.ExportAnswer.{ExportAnswer}
-use Rattle.export.specs.declared.export.ExportAnswer.TheVariants as ExportAnswer
 
 -- ---- what is read
 

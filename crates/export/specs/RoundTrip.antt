@@ -5,7 +5,6 @@ use Rattle.wire.specs.Bytes.{u16_at, u32_at}
 use Rattle.wire.specs.Result.{accepted, then}
 use Rattle.wire.specs.Reading.{run, Given}
 use Rattle.scale.specs.declared.physical.Scheme.{Scheme}
-use Rattle.scale.specs.declared.physical.Scheme.TheVariants as Scheme
 use Rattle.symbology.specs.Answers.{Picture, picture_of}
 use Rattle.symbology.specs.Places.{place}
 use Rattle.symbology.specs.Symbology.{Sweep, symbology}

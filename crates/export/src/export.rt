@@ -5,12 +5,12 @@ ghost use Rattle.export.specs.Export.{count_for, head_bytes, export_of, length_i
 ghost use Rattle.export.specs.Steps.{head_in};
 
 use crate::radials::{high, low};
-use wire::error::{Buffer, Level3DecodeError};
 use symbology::figures::FiguresRead;
 use symbology::radials::{HeaderRead, PacketHeader};
+use wire::error::{Buffer, Level3DecodeError};
 
 // The length of the written body.
-#[derive(Drop)]
+#[derive(Clone, Copy)]
 pub enum ExportAnswer {
     Written(usize),
     Refused(Level3DecodeError),

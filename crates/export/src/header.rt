@@ -4,10 +4,10 @@ ghost use Rattle.wire.specs.Reading.{walk, outcome};
 ghost use Rattle.symbology.specs.Answers.{header_of};
 ghost use Rattle.export.specs.Export.{export_head};
 
-use wire::error::Level3DecodeError;
 use symbology::figures::Packet;
 use symbology::radials::HeaderRead;
 use symbology::symbology::CodeRead;
+use wire::error::Level3DecodeError;
 
 const AF1F_PACKET_CODE: u16 = 0xAF1F;
 

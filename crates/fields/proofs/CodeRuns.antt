@@ -24,7 +24,6 @@ use Rattle.sweep.proofs.GapCalls.{Input}
 use Rattle.sweep.proofs.Reading.{given_in, front_is}
 use Rattle.fields.specs.declared.fields.SweepTotals.{SweepTotals}
 use Rattle.fields.specs.declared.fields.TotalsAnswer.{TotalsAnswer}
-use Rattle.fields.specs.declared.fields.TotalsAnswer.TheVariants as TotalsAnswer
 use Rattle.fields.specs.Totals.{weights}
 use Rattle.fields.specs.Fields.{rain_of, Totalled, totals_of, totals_answer_of, TotalsBuffers, totals_buffers, totals_into, TotalsRan}
 use Rattle.fields.specs.WithTotals.{records_of, Cut, Moved, OneCell}

@@ -17,21 +17,17 @@ use Rattle.wire.proofs.Results.{clash, one_value, through, passed}
 use Rattle.scale.specs.declared.scaling.PrecipScale.{PrecipScale}
 use Rattle.scale.specs.declared.physical.Scheme.{Scheme}
 use Rattle.scale.specs.declared.physical.Scaling.{Scaling}
-use Rattle.scale.specs.declared.physical.Scaling.TheVariants as Scaling
 use Rattle.symbology.specs.declared.figures.Figures.{Figures}
 use Rattle.symbology.specs.Answers.{Picture, picture_of, figures_in}
 use Rattle.sweep.specs.declared.plan.Head.{Head}
 use Rattle.sweep.specs.declared.sweep.Sweep.{Sweep}
 use Rattle.sweep.specs.declared.sweep.SweepAnswer.{SweepAnswer}
-use Rattle.sweep.specs.declared.sweep.SweepAnswer.TheVariants as SweepAnswer
 use Rattle.sweep.specs.Sweep.{head_of, Accepted, sweep_of, sweep_in, answer_of}
 use Rattle.sweep.proofs.Parts.{Sizes, sizes, codes_fit}
 use Rattle.sweep.proofs.Reading.{no_picture_lem, refused_in, given_in, front_is}
 use Rattle.fields.specs.declared.fields.TotalsAnswer.{TotalsAnswer}
-use Rattle.fields.specs.declared.fields.TotalsAnswer.TheVariants as TotalsAnswer
 use Rattle.fields.specs.declared.fields.Checked.{Checked}
 use Rattle.fields.specs.declared.plan.PlanCheck.{PlanCheck}
-use Rattle.fields.specs.declared.plan.PlanCheck.TheVariants as PlanCheck
 use Rattle.fields.specs.Plan.{entries_of, plan_of, plan_check_of}
 use Rattle.fields.specs.Totals.{grid, totals, items}
 use Rattle.fields.specs.Fields.{rain_scale, rain_of, Totalled, grid_of, planned, totals_of, totals_in, totals_answer_of, checked_in, checked_on, totals_buffers, TotalsRan}

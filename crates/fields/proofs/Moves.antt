@@ -1,6 +1,6 @@
 -- One cell's code moves: what each field's total moves by, over a list of records. Assumes nothing.
 use mathlib.Core.Path.{◌≡◌, refl, sym, ap, subst, ◌∙◌}
-use mathlib.Core.Bool.{Bool, true, false, not, cond, ◌&&◌}
+use mathlib.Core.Bool.{Bool, true, false, cond, ◌&&◌}
 use mathlib.Core.List.{List, [], ◌∷◌, map}
 use mathlib.Core.Logic.{⊎_elim, ◌⊎◌, inl, inr}
 use Prim.Native.Nat.{ℕ, zero, suc, ◌+◌, ◌*◌, ◌-◌, ◌≤◌, ◌<◌}
@@ -14,7 +14,6 @@ use Rattle.fields.specs.declared.plan.Record.{Record}
 use Rattle.fields.specs.declared.plan.Record.TheVariants.{Field, Strip}
 use Rattle.scale.specs.Scaling.{valid}
 use Rattle.scale.specs.declared.scaling.Ceiling.{Ceiling}
-use Rattle.scale.specs.declared.scaling.Ceiling.TheVariants as Ceiling
 use Rattle.fields.proofs.Walk.{and_both}
 use Rattle.fields.specs.Totals.{Grid, counts, sum, strip_total, own_total, totals, covers, own_weight, weights}
 

@@ -11,7 +11,6 @@ use lib.ListN.{length, get_or, drop, drop_of_length-le}
 use lib.Seq.{drop-cons}
 use borrow.Author.Tests.{le-leb, lt-leb}
 use Rattle.scale.specs.declared.scaling.Ceiling.{Ceiling}
-use Rattle.scale.specs.declared.scaling.Ceiling.TheVariants as Ceiling
 use Rattle.fields.specs.Totals.{counts, top_of, sum, most}
 
 -- the answers of `counted`

@@ -7,16 +7,13 @@ use Rattle.wire.specs.declared.error.Buffer.TheVariants as Buffer
 use Rattle.scale.specs.declared.scaling.PrecipScale.{PrecipScale}
 use Rattle.scale.specs.declared.physical.Scheme.{Scheme}
 use Rattle.scale.specs.declared.physical.Scaling.{Scaling}
-use Rattle.scale.specs.declared.physical.Scaling.TheVariants as Scaling
 use Rattle.symbology.specs.Answers.{picture_of}
 use Rattle.sweep.specs.declared.sweep.Sweep.{Sweep}
 use Rattle.sweep.specs.Sweep.{head_of, Accepted, sweep_of}
 use Rattle.fields.specs.declared.fields.SweepTotals.{SweepTotals}
 use Rattle.fields.specs.declared.fields.TotalsAnswer.{TotalsAnswer}
-use Rattle.fields.specs.declared.fields.TotalsAnswer.TheVariants as TotalsAnswer
 use Rattle.fields.specs.declared.fields.Checked.{Checked}
 use Rattle.fields.specs.declared.fields.CheckedRead.{CheckedRead}
-use Rattle.fields.specs.declared.fields.CheckedRead.TheVariants as CheckedRead
 use Rattle.fields.specs.Plan.{entries_of, plan_of}
 use Rattle.fields.specs.Totals.{Grid, grid, totals, items}
 

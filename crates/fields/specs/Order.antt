@@ -5,7 +5,6 @@ use Rattle.wire.specs.Refusal.{kind, nat, buffer}
 use Rattle.wire.specs.Result.{accepted, refused, then}
 use Rattle.wire.specs.declared.error.Buffer.TheVariants as Buffer
 use Rattle.scale.specs.declared.physical.Scheme.{Scheme}
-use Rattle.scale.specs.declared.physical.Scheme.TheVariants as Scheme
 use Rattle.symbology.specs.Table.{two, no_radials}
 use Rattle.sweep.specs.Order.{up_to21, product, body16}
 use Rattle.fields.specs.Fields.{totals_of}

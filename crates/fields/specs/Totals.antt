@@ -2,7 +2,6 @@
 use Rattle.std.specs.Prelude.{Bool, cond, ◌&&◌, List, [], ◌∷◌, map, ℕ, ◌+◌, ◌*◌, ◌-◌, eqb, leb, ltb, take, drop}
 use Rattle.scale.specs.Scaling.{valid}
 use Rattle.scale.specs.declared.scaling.Ceiling.{Ceiling}
-use Rattle.scale.specs.declared.scaling.Ceiling.TheVariants as Ceiling
 use Rattle.fields.specs.declared.plan.Record.{Record}
 use Rattle.fields.specs.declared.plan.Record.TheVariants.{Field, Strip, Malformed}
 use Rattle.fields.specs.Plan.{Entry}

@@ -8,35 +8,35 @@ ghost use Rattle.sweep.specs.Sweep.{answer_of};
 ghost use Rattle.fields.specs.Fields.{totals_of, checked_in, checked_of, checked_on, totals_buffers, TotalsRan};
 
 use crate::plan::PlanCheck;
-use wire::error::{Buffer, Level3DecodeError};
 use scale::physical::{Scaling, Scheme};
 use scale::scaling::PrecipScale;
 use sweep::plan::HeadRead;
 use sweep::sweep::{Sweep, SweepAnswer};
 use symbology::figures::FiguresRead;
+use wire::error::{Buffer, Level3DecodeError};
 
 // What acceptance gives beside the picture and the totals: the sweep, and how many fields the plan has.
-#[derive(Drop)]
+#[derive(Clone, Copy)]
 pub struct SweepTotals {
     pub sweep: Sweep,
     pub fields: usize,
 }
 
-#[derive(Drop)]
+#[derive(Clone, Copy)]
 pub enum TotalsAnswer {
     Accepted(SweepTotals),
     Refused(Level3DecodeError),
 }
 
 // The same with the scale of the sweep's codes.
-#[derive(Drop)]
+#[derive(Clone, Copy)]
 pub struct Checked {
     pub sweep: Sweep,
     pub scale: PrecipScale,
     pub fields: usize,
 }
 
-#[derive(Drop)]
+#[derive(Clone, Copy)]
 pub enum CheckedRead {
     Value(Checked),
     Refused(Level3DecodeError),

@@ -7,7 +7,7 @@ ghost use Rattle.fields.specs.Plan.{first_of, field_count, plan_of, plan_check_o
 use wire::error::Level3DecodeError;
 
 // A record of a plan: a field's number, or a strip of the field named last.
-#[derive(Drop)]
+#[derive(Clone, Copy)]
 pub enum Record {
     Field {
         number: u16,
@@ -21,13 +21,13 @@ pub enum Record {
     Malformed,
 }
 
-#[derive(Drop)]
+#[derive(Clone, Copy)]
 pub enum Found {
     At(usize),
     Nothing,
 }
 
-#[derive(Drop)]
+#[derive(Clone, Copy)]
 pub enum PlanCheck {
     Passed(usize),
     Refused(Level3DecodeError),
@@ -68,6 +68,9 @@ pub(crate) fn record_at(plan: &[u8], at: usize) -> Record
     Record::Malformed
 }
 
+// How many strips a plan may have.
+const MAX_STRIPS: usize = 4096;
+
 // 37: a record that may not stand after so many fields and strips.
 fn is_bad(r: Record, fields: usize, strips: usize) -> bool
     ensures { result ≡ bad fields strips r }
@@ -86,7 +89,7 @@ fn is_bad(r: Record, fields: usize, strips: usize) -> bool
             if count < 1 {
                 return true;
             }
-            if strips < 4096 {
+            if strips < MAX_STRIPS {
                 return false;
             }
             true

@@ -5,21 +5,13 @@ use Rattle.wire.specs.Result.{Result, accepted, refused}
 use Rattle.wire.specs.Text.{leading}
 use Rattle.head.specs.Header.{blank, is_token, trimmed}
 use Rattle.head.specs.declared.header.Found.{Found}
-use Rattle.head.specs.declared.header.Found.TheVariants as Found
 use Rattle.head.specs.declared.header.Place.{Place}
-use Rattle.head.specs.declared.header.Place.TheVariants as Place
 use Rattle.head.specs.declared.header.TimeRead.{TimeRead}
-use Rattle.head.specs.declared.header.TimeRead.TheVariants as TimeRead
 use Rattle.head.specs.declared.pdb.I16Field.{I16Field}
-use Rattle.head.specs.declared.pdb.I16Field.TheVariants as I16Field
 use Rattle.head.specs.declared.pdb.U16Field.{U16Field}
-use Rattle.head.specs.declared.pdb.U16Field.TheVariants as U16Field
 use Rattle.head.specs.declared.pdb.I32Field.{I32Field}
-use Rattle.head.specs.declared.pdb.I32Field.TheVariants as I32Field
 use Rattle.head.specs.declared.pdb.PairField.{PairField}
-use Rattle.head.specs.declared.pdb.PairField.TheVariants as PairField
 use Rattle.head.specs.declared.pdb.FieldsRead.{FieldsRead}
-use Rattle.head.specs.declared.pdb.FieldsRead.TheVariants as FieldsRead
 use Rattle.head.specs.declared.pdb.F32Pair.{F32Pair}
 use Rattle.head.specs.declared.pdb.PdbFields.{PdbFields}
 

@@ -9,14 +9,14 @@ use wire::products::is_known_message_code;
 
 const MAX_SCAN_SKEW_SECONDS: u64 = 86400;
 
-#[derive(Drop)]
+#[derive(Clone, Copy)]
 pub enum Place {
     At(usize),
     Refused(Level3DecodeError),
 }
 
 // Where a piece has a token, counted from the piece's start.
-#[derive(Drop)]
+#[derive(Clone, Copy)]
 enum Found {
     At(usize),
     Nothing,
@@ -189,7 +189,7 @@ pub fn find_message_header(file: &[u8]) -> Place
     Place::Refused(Level3DecodeError::NoMessageHeader)
 }
 
-#[derive(Drop)]
+#[derive(Clone, Copy)]
 pub enum TimeRead {
     At(u64),
     Refused(Level3DecodeError),

@@ -6,38 +6,38 @@ ghost use Rattle.head.specs.Outcome.{place, i16_of, u16_of, i32_of, pair_of, fie
 use crate::header::Place;
 use wire::error::Level3DecodeError;
 
-#[derive(Drop)]
+#[derive(Clone, Copy)]
 pub enum I16Field {
     Value(i16),
     Refused(Level3DecodeError),
 }
 
-#[derive(Drop)]
+#[derive(Clone, Copy)]
 pub enum U16Field {
     Value(u16),
     Refused(Level3DecodeError),
 }
 
-#[derive(Drop)]
+#[derive(Clone, Copy)]
 pub enum I32Field {
     Value(i32),
     Refused(Level3DecodeError),
 }
 
-#[derive(Drop)]
+#[derive(Clone, Copy)]
 pub struct F32Pair {
     pub scale: f32,
     pub offset: f32,
 }
 
-#[derive(Drop)]
+#[derive(Clone, Copy)]
 pub enum PairField {
     Value(F32Pair),
     Refused(Level3DecodeError),
 }
 
 // Latitude, longitude, height and elevation stand as floats, and at the end as the whole numbers read from the wire.
-#[derive(Drop)]
+#[derive(Clone, Copy)]
 pub struct PdbFields {
     pub lat: f64,
     pub lon: f64,
@@ -53,7 +53,7 @@ pub struct PdbFields {
     pub elevation_tenths: i16,
 }
 
-#[derive(Drop)]
+#[derive(Clone, Copy)]
 pub enum FieldsRead {
     Value(PdbFields),
     Refused(Level3DecodeError),

@@ -1,16 +1,20 @@
 // Works out the first day number of each month from January 1970 to June 2149 by the months' lengths, and prints them, one a line: the
 // table of crate calendar.
-use libc::STDOUT_FILENO;
+#![tactic(auto)]
 
-fn main() {
+use std::io;
+use std::io::{BufWriter, Write};
+
+fn main(rt: HostRuntime) -> io::Result<()> {
+    let mut out = BufWriter::new(rt.alloc(), io::writer(&rt))?;
     let mut first: u64 = 1;
     let mut k: u16 = 0;
     while k < 2154 {
-        io::print_decimal(STDOUT_FILENO, first);
-        io::write_all(STDOUT_FILENO, b"\n");
+        writeln!(out, "{first}")?;
         let year = 1970 + k / 12;
         let month = (1 + k % 12) as u8;
         first += calendar::month::month_length(year, month) as u64;
         k += 1;
     }
+    out.flush()
 }

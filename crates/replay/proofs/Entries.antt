@@ -1,12 +1,12 @@
 -- Lists of numbers: the piece that begins at a place, the loop that tests the pieces and the one that reads them. Assumes nothing.
-use Rattle.std.proofs.Common.{◌≡◌, ℕ, zero, suc, ◌+◌, ◌-◌, ◌<◌, ◌≤◌, Bool, true, false, cond, ◌&&◌, ◌||◌, eqb, List, [], ◌∷◌, ◌++◌, length, get_or, take, drop, set, sym, refl, ap, ◌∙◌, add-one, arith, length-drop, length-take-le, drop-cons, drop-drop, eq-eqb, ne_eqb, le-leb}
+use Rattle.std.proofs.Common.{◌≡◌, ℕ, zero, suc, ◌+◌, ◌-◌, ◌<◌, ◌≤◌, Bool, true, false, cond, ◌&&◌, ◌||◌, List, [], ◌∷◌, ◌++◌, length, get_or, take, drop, set, sym, refl, ap, ◌∙◌, add-one, arith, length-drop, length-take-le, drop-cons, drop-drop, eq-eqb, ne_eqb, le-leb}
 use native.Mathlib.Nat.{sub-zero}
 use borrow.Author.Tests.{lt-leb}
 use Rattle.wire.specs.Text.{leading}
 use Rattle.wire.proofs.Ends.{leading_within}
 use Rattle.wire.proofs.Walks.{part_rest}
 use Rattle.capi.proofs.Copied.{Copied, copied_first, copied_turn, copied_end}
-use Rattle.io.specs.Counts.{IsPrefixLen}
+use Rattle.replay.specs.Counts.{IsPrefixLen}
 use Rattle.replay.specs.Words.{number_of, is_size}
 use Rattle.replay.specs.Lists.{no_comma, piece_of, is_last, rest_of, is_entry, are_entries, is_none, is_list, entries, list_in}
 use Rattle.replay.proofs.Laws.{counts}

@@ -7,7 +7,7 @@ use Rattle.wire.specs.Text.{leading}
 use Rattle.wire.proofs.Ends.{leading_within}
 use Rattle.wire.proofs.Walks.{part_rest}
 use Rattle.capi.proofs.Copied.{Copied, copied_turn, copied_end}
-use Rattle.io.specs.Counts.{IsPrefixLen}
+use Rattle.replay.specs.Counts.{IsPrefixLen}
 use Rattle.replay.specs.Words.{is_space, no_space, start_from, end_from, ended, word_of, fold}
 use Rattle.replay.specs.Hex.{digit_value, is_hex, byte_of, bytes_of, bytes_in}
 

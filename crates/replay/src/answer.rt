@@ -1,6 +1,6 @@
 // Which lines are cases, and the answer line of each.
 use crate::kinds::Kind;
-use crate::print::say;
+use crate::print::{Text, say};
 use crate::sweeps::Reading;
 use crate::words::word;
 
@@ -165,26 +165,26 @@ fn is_formed(line: &[u8], kind: Kind) -> bool {
     }
 }
 
-fn print(kind: Kind, line: &[u8]) {
+fn print(out: &mut Text, kind: Kind, line: &[u8]) {
     match kind {
-        Kind::Sweep => crate::sweeps::answer(line, Reading::Plain),
-        Kind::Gaps => crate::sweeps::answer(line, Reading::Gaps),
-        Kind::Merge => crate::sweeps::answer(line, Reading::Merge),
-        Kind::Plan => crate::sweeps::answer(line, Reading::Plan),
-        Kind::Symbology => crate::body::symbology(line),
-        Kind::Export => crate::body::export16(line),
-        Kind::Threshold => crate::tables::threshold(line),
-        Kind::Charge => crate::charges::answer(line),
-        Kind::Legacy => crate::tables::legacy(line),
-        Kind::Known => crate::tables::known(line),
-        Kind::Codes => crate::tables::codes(),
-        Kind::Xdr => crate::xdr_items::answer(line),
-        _ => crate::small::answer(kind, line),
+        Kind::Sweep => crate::sweeps::answer(out, line, Reading::Plain),
+        Kind::Gaps => crate::sweeps::answer(out, line, Reading::Gaps),
+        Kind::Merge => crate::sweeps::answer(out, line, Reading::Merge),
+        Kind::Plan => crate::sweeps::answer(out, line, Reading::Plan),
+        Kind::Symbology => crate::body::symbology(out, line),
+        Kind::Export => crate::body::export16(out, line),
+        Kind::Threshold => crate::tables::threshold(out, line),
+        Kind::Charge => crate::charges::answer(out, line),
+        Kind::Legacy => crate::tables::legacy(out, line),
+        Kind::Known => crate::tables::known(out, line),
+        Kind::Codes => crate::tables::codes(out),
+        Kind::Xdr => crate::xdr_items::answer(out, line),
+        _ => crate::small::answer(out, kind, line),
     }
 }
 
 // Empty lines and comments have no answer; `?` is that of a line that is no case.
-pub fn line(line: &[u8]) {
+pub fn line(out: &mut Text, line: &[u8]) {
     if line.len() == 0 {
         return;
     }
@@ -192,12 +192,12 @@ pub fn line(line: &[u8]) {
         return;
     }
     let kind = kind_of(line);
-    say(word(line, 1));
-    say(b" ");
+    say(out, word(line, 1));
+    say(out, b" ");
     if is_formed(line, kind) {
-        print(kind, line);
+        print(out, kind, line);
     } else {
-        say(b"?");
+        say(out, b"?");
     }
-    say(b"\n");
+    say(out, b"\n");
 }

@@ -3,7 +3,7 @@ ghost use Rattle.std.specs.Prelude.{◌≡◌, ◌*◌, ◌≤◌, slice_index};
 ghost use Rattle.replay.specs.Report.{cells_of};
 
 use crate::lent::{float, int};
-use crate::print::{named, say};
+use crate::print::{Text, named, say};
 use crate::words::word;
 
 fn product(a: u64, b: u64) -> u64
@@ -34,80 +34,93 @@ pub fn radials(ints: &[u64]) -> usize
     int(ints, 7) as usize
 }
 
-fn print_packet(n: u64) {
-    say(b"packet=");
+fn print_packet(out: &mut Text, n: u64) {
+    say(out, b"packet=");
     if n == 44831 {
-        say(b"AF1F");
+        say(out, b"AF1F");
         return;
     }
-    crate::print::whole(n);
+    crate::print::whole(out, n);
 }
 
-fn print_geometry(ints: &[u64], floats: &[f64]) {
+fn print_geometry(out: &mut Text, ints: &[u64], floats: &[f64]) {
     if int(ints, 6) == 28 {
-        say(b" gw=");
-        crate::print::held_single(float(floats, 4));
-        say(b" fg=");
-        crate::print::held_single(float(floats, 5));
+        say(out, b" gw=");
+        crate::print::held_single(out, float(floats, 4));
+        say(out, b" fg=");
+        crate::print::held_single(out, float(floats, 5));
         return;
     }
-    named(b" rs=", int(ints, 9));
+    named(out, b" rs=", int(ints, 9));
 }
 
-fn print_azimuths(azimuths: &[f64], n: usize) {
-    say(b" az=");
-    crate::print::none_of(n);
+fn print_azimuths(out: &mut Text, azimuths: &[f64], n: usize) {
+    say(out, b" az=");
+    crate::print::none_of(out, n);
     let mut i = 0usize;
     while i < azimuths.len() {
         if n <= i {
             return;
         }
-        crate::print::double(azimuths[i]);
+        crate::print::double(out, azimuths[i]);
         i += 1;
     }
 }
 
-fn print_codes(codes: &[u16], n: usize) {
-    say(b" codes=");
-    crate::print::none_of(n);
+fn print_codes(out: &mut Text, codes: &[u16], n: usize) {
+    say(out, b" codes=");
+    crate::print::none_of(out, n);
     let mut i = 0usize;
     while i < codes.len() {
         if n <= i {
             return;
         }
-        crate::print::hex(crate::print::wide16(codes[i]), 4);
+        crate::print::hex(out, crate::print::wide16(codes[i]), 4);
         i += 1;
     }
 }
 
-pub fn print_picture(ints: &[u64], floats: &[f64], azimuths: &[f64], codes: &[u16]) {
-    print_packet(int(ints, 6));
-    named(b" nr=", int(ints, 7));
-    named(b" nb=", int(ints, 8));
-    print_geometry(ints, floats);
-    print_azimuths(azimuths, radials(ints));
-    print_codes(codes, cells(ints));
+pub fn print_picture(
+    out: &mut Text,
+    ints: &[u64],
+    floats: &[f64],
+    azimuths: &[f64],
+    codes: &[u16],
+) {
+    print_packet(out, int(ints, 6));
+    named(out, b" nr=", int(ints, 7));
+    named(out, b" nb=", int(ints, 8));
+    print_geometry(out, ints, floats);
+    print_azimuths(out, azimuths, radials(ints));
+    print_codes(out, codes, cells(ints));
 }
 
 // What the library answers, and that it wrote nothing else. A picture of more cells than there is room for is not answered.
-fn print(number: u32, ints: &[u64], floats: &[f64], azimuths: &[f64], codes: &[u16]) {
+fn print(
+    out: &mut Text,
+    number: u32,
+    ints: &[u64],
+    floats: &[f64],
+    azimuths: &[f64],
+    codes: &[u16],
+) {
     if number == 36 {
-        say(b"? too large");
+        say(out, b"? too large");
         return;
     }
     if number != 0 {
-        crate::refusal::print(number, ints, floats);
-        crate::lent::check_azimuths(azimuths, 0);
-        crate::lent::check_codes(codes, 0);
+        crate::refusal::print(out, number, ints, floats);
+        crate::lent::check_azimuths(out, azimuths, 0);
+        crate::lent::check_codes(out, codes, 0);
         return;
     }
-    say(b"A ");
-    print_picture(ints, floats, azimuths, codes);
-    crate::lent::check_azimuths(azimuths, radials(ints));
-    crate::lent::check_codes(codes, cells(ints));
+    say(out, b"A ");
+    print_picture(out, ints, floats, azimuths, codes);
+    crate::lent::check_azimuths(out, azimuths, radials(ints));
+    crate::lent::check_codes(out, codes, cells(ints));
 }
 
-pub fn symbology(line: &[u8]) {
+pub fn symbology(out: &mut Text, line: &[u8]) {
     let mut body = crate::hex::room();
     let n = crate::hex::read(word(line, 2), &mut body);
     let mut azimuths = crate::lent::azimuths();
@@ -121,44 +134,51 @@ pub fn symbology(line: &[u8]) {
         &mut ints,
         &mut floats,
     );
-    print(number, &ints, &floats, &azimuths, &codes);
-    crate::lent::check_report(&ints, &floats);
+    print(out, number, &ints, &floats, &azimuths, &codes);
+    crate::lent::check_report(out, &ints, &floats);
 }
 
-fn print_written(number: u32, ints: &[u64], floats: &[f64], output: &[u8]) {
+fn print_written(out: &mut Text, number: u32, ints: &[u64], floats: &[f64], output: &[u8]) {
     if number != 0 {
-        crate::refusal::print(number, ints, floats);
-        crate::lent::check_output(output, 0);
+        crate::refusal::print(out, number, ints, floats);
+        crate::lent::check_output(out, output, 0);
         return;
     }
     let n = int(ints, 0) as usize;
     if output.len() < n {
-        say(b"?");
+        say(out, b"?");
         return;
     }
-    named(b"A ", int(ints, 0));
-    say(b" ");
-    crate::print::hex_bytes(&output[..n]);
-    crate::lent::check_output(output, n);
+    named(out, b"A ", int(ints, 0));
+    say(out, b" ");
+    crate::print::hex_bytes(out, &output[..n]);
+    crate::lent::check_output(out, output, n);
 }
 
 // The body that the library writes to a part of the buffer, and that it wrote nothing else.
-fn export_on(line: &[u8], body: &[u8], output: &mut [u8], ints: &mut [u64], floats: &mut [f64]) {
+fn export_on(
+    out: &mut Text,
+    line: &[u8],
+    body: &[u8],
+    output: &mut [u8],
+    ints: &mut [u64],
+    floats: &mut [f64],
+) {
     let room = crate::words::size(word(line, 2));
     if output.len() < room {
-        say(b"? too large");
+        say(out, b"? too large");
         return;
     }
     let number = capi::exports::l3_export16(body, &mut output[..room], ints, floats);
-    print_written(number, ints, floats, output);
-    crate::lent::check_report(ints, floats);
+    print_written(out, number, ints, floats, output);
+    crate::lent::check_report(out, ints, floats);
 }
 
-pub fn export16(line: &[u8]) {
+pub fn export16(out: &mut Text, line: &[u8]) {
     let mut body = crate::hex::room();
     let n = crate::hex::read(word(line, 3), &mut body);
     let mut output = crate::lent::output();
     let mut ints = crate::lent::ints();
     let mut floats = crate::lent::floats();
-    export_on(line, &body[..n], &mut output, &mut ints, &mut floats);
+    export_on(out, line, &body[..n], &mut output, &mut ints, &mut floats);
 }

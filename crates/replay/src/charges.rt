@@ -2,7 +2,7 @@
 ghost use Rattle.std.specs.Prelude.{◌≡◌, length, replicate};
 
 use crate::lent::int;
-use crate::print::named;
+use crate::print::{Text, named};
 use crate::words::word;
 
 fn rates() -> [u32; 4096]
@@ -24,16 +24,16 @@ fn narrow(wide: &[u64], rates: &mut [u32]) {
     }
 }
 
-fn print(number: u32, ints: &[u64], floats: &[f64]) {
+fn print(out: &mut Text, number: u32, ints: &[u64], floats: &[f64]) {
     if number != 0 {
-        crate::refusal::print(number, ints, floats);
+        crate::refusal::print(out, number, ints, floats);
         return;
     }
-    named(b"A ", int(ints, 0));
-    named(b" ", int(ints, 1));
+    named(out, b"A ", int(ints, 0));
+    named(out, b" ", int(ints, 1));
 }
 
-pub fn answer(line: &[u8]) {
+pub fn answer(out: &mut Text, line: &[u8]) {
     let mut ends = crate::lists::room();
     let n = crate::lists::read(word(line, 3), &mut ends);
     let mut wide = crate::lists::room();
@@ -44,6 +44,6 @@ pub fn answer(line: &[u8]) {
     let mut floats = crate::lent::floats();
     let total = crate::words::number(word(line, 2));
     let number = capi::charges::l3_charge(total, &ends[..n], &rates[..m], &mut ints, &mut floats);
-    print(number, &ints, &floats);
-    crate::lent::check_report(&ints, &floats);
+    print(out, number, &ints, &floats);
+    crate::lent::check_report(out, &ints, &floats);
 }

@@ -1,7 +1,7 @@
 // Bytes and floats of hexadecimal words. `-` is no bytes.
 ghost use Rattle.std.specs.Prelude.{◌≡◌, ◌≤◌, ◌++◌, length, drop, replicate};
 ghost use Rattle.wire.specs.Text.{all};
-ghost use Rattle.io.specs.Counts.{IsPrefixLen};
+ghost use Rattle.replay.specs.Counts.{IsPrefixLen};
 ghost use Rattle.replay.specs.Hex.{digit_value, byte_of, bytes_in, is_hex, is_bytes, is_float, bits_of, float_of};
 
 // Room for the bytes of any word of a line.

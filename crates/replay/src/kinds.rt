@@ -2,7 +2,7 @@
 ghost use Rattle.std.specs.Prelude.{◌≡◌};
 ghost use Rattle.replay.specs.Kinds.{field_kind, scheme_number, parameter_of, item_number};
 
-#[derive(Drop)]
+#[derive(Clone, Copy)]
 pub enum Kind {
     Sweep,
     Gaps,

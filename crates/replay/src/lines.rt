@@ -1,16 +1,27 @@
 // The lines of standard input, one after another.
 ghost use Rattle.std.specs.Prelude.{◌≤◌, length};
 
-// Reads behind the bytes that are held, until the input ends or the buffer is full; how many are held then.
-fn fill(buf: &mut [u8], held: usize) -> usize
+use crate::print::Text;
+use std::io;
+use std::io::Read;
+
+// Reads behind the bytes that are held, until the input ends, a read fails or the buffer is full; how many are held then.
+fn fill(failed: &mut Option<io::Error>, input: &mut impl Read, buf: &mut [u8], held: usize) -> usize
     requires { held ≤ length buf.old }
     ensures { (held ≤ result) × (result ≤ length buf.new) }
 {
-    let got = io::read_full(0, &mut buf[held..]);
-    if buf.len() - held < got {
-        return held;
+    let mut n = held;
+    while n < buf.len() {
+        match input.read(&mut buf[n..]) {
+            Ok(0) => return n,
+            Ok(got) => n += got,
+            Err(e) => {
+                *failed = Some(e);
+                return n;
+            }
+        }
     }
-    held + got
+    n
 }
 
 // Where the line that begins at a place ends: its line end, or the text's.
@@ -28,8 +39,14 @@ fn line_end(text: &[u8], at: usize) -> usize
     i
 }
 
+// Answers a line, and writes the answer.
+fn answer_line(out: &mut Text, rt: &impl Print, line: &[u8]) {
+    crate::answer::line(out, line);
+    out.write_to(rt);
+}
+
 // Answers the lines that have ended; where the next one begins.
-fn answer_ended(text: &[u8]) -> usize
+fn answer_ended(out: &mut Text, rt: &impl Print, text: &[u8]) -> usize
     ensures { result ≤ length text.now }
 {
     let mut at = 0usize;
@@ -38,7 +55,7 @@ fn answer_ended(text: &[u8]) -> usize
         if e == text.len() {
             return at;
         }
-        crate::answer::line(&text[at..e]);
+        answer_line(out, rt, &text[at..e]);
         at = e + 1;
     }
     at
@@ -60,36 +77,56 @@ fn to_front(buf: &mut [u8], from: usize, n: usize) {
 }
 
 // One turn: reads, and answers the lines that have ended; how many bytes are held then, the buffer's length where there is no more.
-fn turn(buf: &mut [u8], held: usize) -> usize
+fn turn(
+    out: &mut Text,
+    rt: &(impl Print + Eprint),
+    failed: &mut Option<io::Error>,
+    input: &mut impl Read,
+    buf: &mut [u8],
+    held: usize,
+) -> usize
     requires { held ≤ length buf.old }
     ensures { result ≤ length buf.new }
 {
-    let n = fill(buf, held);
+    let n = fill(failed, input, buf, held);
     if n == held {
-        crate::answer::line(&buf[..n]);
+        answer_line(out, rt, &buf[..n]);
+        // What was read before a read failed is answered first.
+        if let Some(e) = failed.take() {
+            out.keep(Err(e));
+        }
         return buf.len();
     }
-    let done = answer_ended(&buf[..n]);
+    let done = answer_ended(out, rt, &buf[..n]);
     if n < done {
         return buf.len();
     }
     to_front(buf, done, n - done);
     if n - done == buf.len() {
-        io::write_all(
-            2,
-            b"replay: a line is longer than the 65,536 bytes that there is room for\n",
+        let warned = eprintln!(rt;
+            "replay: a line is longer than the 65,536 bytes that there is room for"
         );
+        out.keep(warned);
     }
     n - done
 }
 
 // Nothing says that the input ends, so the turns are counted down.
-pub fn answer_all(buf: &mut [u8]) {
+pub fn answer_all(
+    out: &mut Text,
+    rt: &(impl Print + Eprint),
+    input: &mut impl Read,
+    buf: &mut [u8],
+) {
+    let mut failed = None;
     let mut held = 0usize;
     let mut turns = u64::MAX;
     while 0 < turns {
-        held = turn(buf, held);
+        held = turn(out, rt, &mut failed, input, buf, held);
         if held == buf.len() {
+            return;
+        }
+        if out.has_failed() {
             return;
         }
         turns -= 1;

@@ -1,6 +1,6 @@
 // Lists of numbers, with a comma between two. `-` is none.
 ghost use Rattle.std.specs.Prelude.{◌≡◌, ◌≤◌, ◌++◌, length, drop, replicate};
-ghost use Rattle.io.specs.Counts.{IsPrefixLen};
+ghost use Rattle.replay.specs.Counts.{IsPrefixLen};
 ghost use Rattle.replay.specs.Lists.{piece_of, is_entry, is_list, list_in};
 
 // Room for the numbers of any list.

@@ -1,5 +1,9 @@
 // Reads case lines on standard input, asks the library and prints the answer line of each. The format is that of the comparison project
 // with the Rust; its program `sample` writes crates/replay/stdin, and with `--answers` the Rust's answers, crates/replay/stdout.
+#![tactic(auto)]
+
+use std::io;
+
 mod answer;
 mod body;
 mod charges;
@@ -16,7 +20,10 @@ mod tables;
 mod words;
 mod xdr_items;
 
-fn main() {
-    let mut buf = io::large_buffer();
-    lines::answer_all(&mut buf);
+fn main(rt: HostRuntime) -> io::Result<()> {
+    let mut out = print::Text::new(rt.alloc());
+    let mut input = rt.reader();
+    let mut buf = [0u8; 65536];
+    lines::answer_all(&mut out, &rt, &mut input, &mut buf);
+    out.finish()
 }

@@ -1,6 +1,6 @@
 // A refusal: its number, and its values out of the report.
 use crate::lent::{float, int};
-use crate::print::say;
+use crate::print::{Text, say};
 
 // How many whole numbers a refusal has.
 fn wholes(number: u32) -> usize {
@@ -20,59 +20,59 @@ fn has_float(number: u32) -> bool {
     }
 }
 
-fn say_item(n: u64) {
+fn say_item(out: &mut Text, n: u64) {
     match n {
-        0 => say(b"int"),
-        1 => say(b"uint"),
-        2 => say(b"float"),
-        3 => say(b"string_body"),
-        4 => say(b"padding"),
-        5 => say(b"array_body"),
-        6 => say(b"packet_body"),
-        _ => say(b"?"),
+        0 => say(out, b"int"),
+        1 => say(out, b"uint"),
+        2 => say(out, b"float"),
+        3 => say(out, b"string_body"),
+        4 => say(out, b"padding"),
+        5 => say(out, b"array_body"),
+        6 => say(out, b"packet_body"),
+        _ => say(out, b"?"),
     }
 }
 
-fn say_buffer(n: u64) {
+fn say_buffer(out: &mut Text, n: u64) {
     match n {
-        0 => say(b"azimuths"),
-        1 => say(b"codes"),
-        2 => say(b"physical"),
-        3 => say(b"marks"),
-        4 => say(b"totals"),
-        5 => say(b"output"),
-        _ => say(b"?"),
+        0 => say(out, b"azimuths"),
+        1 => say(out, b"codes"),
+        2 => say(out, b"physical"),
+        3 => say(out, b"marks"),
+        4 => say(out, b"totals"),
+        5 => say(out, b"output"),
+        _ => say(out, b"?"),
     }
 }
 
 // The first whole number: an item, a buffer, an index that takes all 64 bits, or signed as the others are.
-fn say_first(number: u32, n: u64) {
+fn say_first(out: &mut Text, number: u32, n: u64) {
     match number {
-        3 => crate::print::whole(n),
-        23 => say_item(n),
-        36 => say_buffer(n),
-        _ => crate::print::signed(n),
+        3 => crate::print::whole(out, n),
+        23 => say_item(out, n),
+        36 => say_buffer(out, n),
+        _ => crate::print::signed(out, n),
     }
 }
 
-fn print_wholes(number: u32, n: usize, ints: &[u64]) {
+fn print_wholes(out: &mut Text, number: u32, n: usize, ints: &[u64]) {
     let mut k = 0usize;
     while k < n {
-        say(b" ");
+        say(out, b" ");
         if k == 0 {
-            say_first(number, int(ints, 0));
+            say_first(out, number, int(ints, 0));
         } else {
-            crate::print::signed(int(ints, k));
+            crate::print::signed(out, int(ints, k));
         }
         k += 1;
     }
 }
 
-pub fn print(number: u32, ints: &[u64], floats: &[f64]) {
-    crate::print::named(b"R ", number as u64);
-    print_wholes(number, wholes(number), ints);
+pub fn print(out: &mut Text, number: u32, ints: &[u64], floats: &[f64]) {
+    crate::print::named(out, b"R ", number as u64);
+    print_wholes(out, number, wholes(number), ints);
     if has_float(number) {
-        say(b" f");
-        crate::print::held_single(float(floats, 0));
+        say(out, b" f");
+        crate::print::held_single(out, float(floats, 0));
     }
 }

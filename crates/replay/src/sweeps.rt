@@ -2,10 +2,10 @@
 ghost use Rattle.std.specs.Prelude.{◌≤◌, length};
 
 use crate::lent::{float, int};
-use crate::print::{held_single, named, say};
+use crate::print::{Text, held_single, named, say};
 use crate::words::{size, word};
 
-#[derive(Drop)]
+#[derive(Clone, Copy)]
 pub enum Reading {
     Plain,
     Gaps,
@@ -13,33 +13,34 @@ pub enum Reading {
     Plan,
 }
 
-fn print_scale(ints: &[u64], floats: &[f64]) {
-    say(b" scale=");
+fn print_scale(out: &mut Text, ints: &[u64], floats: &[f64]) {
+    say(out, b" scale=");
     if int(ints, 10) == 0 {
-        say(b"none");
+        say(out, b"none");
         return;
     }
-    held_single(float(floats, 6));
-    say(b",");
-    held_single(float(floats, 7));
-    named(b",", int(ints, 11));
-    named(b",", int(ints, 12));
+    held_single(out, float(floats, 6));
+    say(out, b",");
+    held_single(out, float(floats, 7));
+    named(out, b",", int(ints, 11));
+    named(out, b",", int(ints, 12));
 }
 
-fn print_physical(physical: &[f32], n: usize) {
-    say(b" phys=");
-    crate::print::none_of(n);
+fn print_physical(out: &mut Text, physical: &[f32], n: usize) {
+    say(out, b" phys=");
+    crate::print::none_of(out, n);
     let mut i = 0usize;
     while i < physical.len() {
         if n <= i {
             return;
         }
-        crate::print::single(physical[i]);
+        crate::print::single(out, physical[i]);
         i += 1;
     }
 }
 
 fn print_sweep(
+    out: &mut Text,
     file: &[u8],
     ints: &[u64],
     floats: &[f64],
@@ -47,39 +48,39 @@ fn print_sweep(
     codes: &[u16],
     physical: &[f32],
 ) {
-    say(b"A tok=");
-    crate::small::print_token(file, int(ints, 0), 0, 6);
-    say(b" ");
-    crate::small::print_fields(ints, floats);
-    named(b" time=", int(ints, 5));
-    print_scale(ints, floats);
-    say(b" ");
-    crate::body::print_picture(ints, floats, azimuths, codes);
-    print_physical(physical, crate::body::cells(ints));
+    say(out, b"A tok=");
+    crate::small::print_token(out, file, int(ints, 0), 0, 6);
+    say(out, b" ");
+    crate::small::print_fields(out, ints, floats);
+    named(out, b" time=", int(ints, 5));
+    print_scale(out, ints, floats);
+    say(out, b" ");
+    crate::body::print_picture(out, ints, floats, azimuths, codes);
+    print_physical(out, physical, crate::body::cells(ints));
 }
 
-fn print_marks(marks: &[u8], n: usize) {
-    say(b" marks=");
+fn print_marks(out: &mut Text, marks: &[u8], n: usize) {
+    say(out, b" marks=");
     if marks.len() < n {
-        say(b"?");
+        say(out, b"?");
         return;
     }
-    crate::print::hex_bytes(&marks[..n]);
+    crate::print::hex_bytes(out, &marks[..n]);
 }
 
 // Numbers with commas between them; `-` where there are none.
-fn print_totals(totals: &[u64], n: usize) {
-    say(b" totals=");
-    crate::print::none_of(n);
+fn print_totals(out: &mut Text, totals: &[u64], n: usize) {
+    say(out, b" totals=");
+    crate::print::none_of(out, n);
     let mut i = 0usize;
     while i < totals.len() {
         if n <= i {
             return;
         }
         if 0 < i {
-            say(b",");
+            say(out, b",");
         }
-        crate::print::whole(totals[i]);
+        crate::print::whole(out, totals[i]);
         i += 1;
     }
 }
@@ -100,16 +101,17 @@ fn totalled(reading: Reading, ints: &[u64]) -> usize {
 }
 
 // What a reading gives beside the sweep.
-fn print_more(reading: Reading, ints: &[u64], marks: &[u8], totals: &[u64]) {
+fn print_more(out: &mut Text, reading: Reading, ints: &[u64], marks: &[u8], totals: &[u64]) {
     match reading {
         Reading::Plain => {}
-        Reading::Gaps | Reading::Merge => print_marks(marks, marked(reading, ints)),
-        Reading::Plan => print_totals(totals, totalled(reading, ints)),
+        Reading::Gaps | Reading::Merge => print_marks(out, marks, marked(reading, ints)),
+        Reading::Plan => print_totals(out, totals, totalled(reading, ints)),
     }
 }
 
 // Says where the library wrote a place that it must keep: any from these on.
 fn check(
+    out: &mut Text,
     azimuths: &[f64],
     codes: &[u16],
     physical: &[f32],
@@ -120,14 +122,15 @@ fn check(
     marked: usize,
     totalled: usize,
 ) {
-    crate::lent::check_azimuths(azimuths, radials);
-    crate::lent::check_codes(codes, cells);
-    crate::lent::check_physical(physical, cells);
-    crate::lent::check_marks(marks, marked);
-    crate::lent::check_totals(totals, totalled);
+    crate::lent::check_azimuths(out, azimuths, radials);
+    crate::lent::check_codes(out, codes, cells);
+    crate::lent::check_physical(out, physical, cells);
+    crate::lent::check_marks(out, marks, marked);
+    crate::lent::check_totals(out, totals, totalled);
 }
 
 fn print(
+    out: &mut Text,
     number: u32,
     ints: &[u64],
     floats: &[f64],
@@ -140,13 +143,14 @@ fn print(
     file: &[u8],
 ) {
     if number != 0 {
-        crate::refusal::print(number, ints, floats);
-        check(azimuths, codes, physical, marks, totals, 0, 0, 0, 0);
+        crate::refusal::print(out, number, ints, floats);
+        check(out, azimuths, codes, physical, marks, totals, 0, 0, 0, 0);
         return;
     }
-    print_sweep(file, ints, floats, azimuths, codes, physical);
-    print_more(reading, ints, marks, totals);
+    print_sweep(out, file, ints, floats, azimuths, codes, physical);
+    print_more(out, reading, ints, marks, totals);
     check(
+        out,
         azimuths,
         codes,
         physical,
@@ -238,6 +242,7 @@ fn ask(
 }
 
 fn answer_on(
+    out: &mut Text,
     line: &[u8],
     reading: Reading,
     file: &[u8],
@@ -270,9 +275,9 @@ fn answer_on(
         &mut floats,
     );
     print(
-        number, &ints, &floats, azimuths, codes, physical, reading, marks, totals, file,
+        out, number, &ints, &floats, azimuths, codes, physical, reading, marks, totals, file,
     );
-    crate::lent::check_report(&ints, &floats);
+    crate::lent::check_report(out, &ints, &floats);
 }
 
 fn marks_size(line: &[u8], reading: Reading) -> usize {
@@ -291,6 +296,7 @@ fn totals_size(line: &[u8], reading: Reading) -> usize {
 
 // On buffers of the lengths that the line says, where there is room for them.
 fn answer_within(
+    out: &mut Text,
     line: &[u8],
     reading: Reading,
     file: &[u8],
@@ -311,8 +317,8 @@ fn answer_within(
                 if nm <= marks.len() {
                     if nt <= totals.len() {
                         answer_on(
-                            line, reading, file, azimuths, na, codes, nc, physical, np, marks, nm,
-                            totals, nt,
+                            out, line, reading, file, azimuths, na, codes, nc, physical, np, marks,
+                            nm, totals, nt,
                         );
                         return;
                     }
@@ -320,10 +326,10 @@ fn answer_within(
             }
         }
     }
-    say(b"? too large");
+    say(out, b"? too large");
 }
 
-pub fn answer(line: &[u8], reading: Reading) {
+pub fn answer(out: &mut Text, line: &[u8], reading: Reading) {
     let mut file = crate::hex::room();
     let n = crate::hex::read(word(line, file_word(reading)), &mut file);
     let mut azimuths = crate::lent::azimuths();
@@ -332,6 +338,7 @@ pub fn answer(line: &[u8], reading: Reading) {
     let mut marks = crate::lent::marks();
     let mut totals = crate::lent::totals();
     answer_within(
+        out,
         line,
         reading,
         &file[..n],

@@ -10,9 +10,7 @@ use Rattle.wire.specs.declared.error.Buffer.TheVariants as Buffer
 use Rattle.wire.proofs.Results.{through, one_value}
 use Rattle.head.proofs.Fields.{field_inside}
 use Rattle.scale.specs.declared.physical.Scheme.{Scheme}
-use Rattle.scale.specs.declared.physical.Scheme.TheVariants as Scheme
 use Rattle.scale.specs.declared.physical.Scaling.{Scaling}
-use Rattle.scale.specs.declared.physical.Scaling.TheVariants as Scaling
 use Rattle.scale.specs.Pdb.{value_scaling_linear_hw, value_scaling_float, precip_family_scale, threshold_place}
 use Rattle.scale.specs.Physical.{scale_fields, value_of, physical_of, fill_of, Ready}
 

@@ -21,7 +21,6 @@ use Rattle.wire.proofs.Results.{one_value, through, passed}
 use Rattle.head.specs.Pdb.{field_at, hw_i16, hw_u16}
 use Rattle.scale.specs.declared.physical.Scheme.TheVariants as Scheme
 use Rattle.scale.specs.declared.physical.Scaling.{Scaling}
-use Rattle.scale.specs.declared.physical.Scaling.TheVariants as Scaling
 use Rattle.scale.specs.declared.physical.Declared.{Declared}
 use Rattle.scale.specs.Scaling.{linear_hw, linear_declared}
 use Rattle.scale.specs.Pdb.{value_scaling_linear_hw}

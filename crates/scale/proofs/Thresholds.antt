@@ -28,7 +28,6 @@ use Rattle.scale.specs.Physical.{has_level, level_of, scale_fields, value_of, ph
 use Rattle.scale.specs.Thresholds.{levels_in_file, levels_of_copy}
 use Rattle.scale.specs.declared.physical.Scheme.TheVariants as Scheme
 use Rattle.scale.specs.declared.physical.Scaling.{Scaling}
-use Rattle.scale.specs.declared.physical.Scaling.TheVariants as Scaling
 use Rattle.scale.proofs.Levels.{sixteen_at}
 use Rattle.scale.specs.contracts.pdb.threshold_data as copying
 use Rattle.scale.proofs.pdb.threshold_data.Kinds as copying-kinds

@@ -5,19 +5,13 @@ use Rattle.scale.specs.declared.scaling.LinearScale.{LinearScale}
 use Rattle.scale.specs.declared.scaling.PrecipScale.{PrecipScale}
 use Rattle.scale.specs.declared.scaling.DeclaredLinearScale.{DeclaredLinearScale}
 use Rattle.scale.specs.declared.scaling.LinearDeclaredRead.{LinearDeclaredRead}
-use Rattle.scale.specs.declared.scaling.LinearDeclaredRead.TheVariants as LinearDeclaredRead
 use Rattle.scale.specs.declared.pdb.LinearScaleRead.{LinearScaleRead}
-use Rattle.scale.specs.declared.pdb.LinearScaleRead.TheVariants as LinearScaleRead
 use Rattle.scale.specs.declared.pdb.PrecipScaleRead.{PrecipScaleRead}
-use Rattle.scale.specs.declared.pdb.PrecipScaleRead.TheVariants as PrecipScaleRead
 use Rattle.scale.specs.declared.physical.Scaling.{Scaling}
 use Rattle.scale.specs.declared.physical.ScalingRead.{ScalingRead}
-use Rattle.scale.specs.declared.physical.ScalingRead.TheVariants as ScalingRead
 use Rattle.scale.specs.declared.physical.Declared.{Declared}
 use Rattle.scale.specs.declared.physical.DeclaredScaleRead.{DeclaredScaleRead}
-use Rattle.scale.specs.declared.physical.DeclaredScaleRead.TheVariants as DeclaredScaleRead
 use Rattle.scale.specs.declared.physical.Filled.{Filled}
-use Rattle.scale.specs.declared.physical.Filled.TheVariants as Filled
 
 abbrev pub linear_declared_of : LinearDeclaredRead → Result DeclaredLinearScale
 linear_declared_of (LinearDeclaredRead.Value d) = accepted d

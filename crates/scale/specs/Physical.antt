@@ -6,14 +6,10 @@ use Rattle.wire.specs.Refusal.{kind, buffer}
 use Rattle.wire.specs.Result.{Result, accepted, refused, refuse, then}
 use Rattle.wire.specs.declared.error.Buffer.TheVariants as Buffer
 use Rattle.scale.specs.declared.scaling.Ceiling.{Ceiling}
-use Rattle.scale.specs.declared.scaling.Ceiling.TheVariants as Ceiling
 use Rattle.scale.specs.declared.scaling.PrecipScale.{PrecipScale}
 use Rattle.scale.specs.declared.physical.Scheme.{Scheme}
-use Rattle.scale.specs.declared.physical.Scheme.TheVariants as Scheme
 use Rattle.scale.specs.declared.physical.Scaling.{Scaling}
-use Rattle.scale.specs.declared.physical.Scaling.TheVariants as Scaling
 use Rattle.scale.specs.declared.physical.Declared.{Declared}
-use Rattle.scale.specs.declared.physical.Declared.TheVariants as Declared
 use Rattle.scale.specs.Scaling.{valid, linear_declared, precip_declared}
 use Rattle.scale.specs.Legacy.{level_at}
 use Rattle.scale.specs.Pdb.{value_scaling_linear_hw, value_scaling_float, precip_family_scale, threshold_place}

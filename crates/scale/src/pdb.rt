@@ -5,24 +5,24 @@ ghost use Rattle.scale.specs.Pdb.{scale_pair, value_scaling_linear_hw, value_sca
 ghost use Rattle.scale.specs.Outcome.{linear_of, precip_of};
 
 use crate::scaling::{LinearScale, PrecipScale};
-use wire::error::Level3DecodeError;
 use head::header::Place;
 use head::pdb::{I16Field, PairField, U16Field};
+use wire::error::Level3DecodeError;
 
-#[derive(Drop)]
+#[derive(Clone, Copy)]
 pub enum LinearScaleRead {
     Value(LinearScale),
     Refused(Level3DecodeError),
 }
 
-#[derive(Drop)]
+#[derive(Clone, Copy)]
 pub enum PrecipScaleRead {
     Value(PrecipScale),
     Refused(Level3DecodeError),
 }
 
 // Where the thresholds stand, or the refusal, and a copy of them: zeros after a refusal.
-#[derive(Drop)]
+#[derive(Clone, Copy)]
 pub struct ThresholdRead {
     pub place: Place,
     pub data: [u8; 32],

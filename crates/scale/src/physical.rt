@@ -13,7 +13,7 @@ use crate::scaling::{Ceiling, DeclaredLinearScale, LinearScale, PrecipScale};
 use wire::error::{Buffer, Level3DecodeError};
 
 // How raw codes are coded.
-#[derive(Drop)]
+#[derive(Clone, Copy)]
 pub enum Scheme {
     Halfword,
     Float,
@@ -23,7 +23,7 @@ pub enum Scheme {
 }
 
 // What is needed to value codes: the scale fields, read. Legacy has the place of its thresholds in the file.
-#[derive(Drop)]
+#[derive(Clone, Copy)]
 pub enum Scaling {
     Linear(LinearScale),
     Precip(PrecipScale),
@@ -31,26 +31,26 @@ pub enum Scaling {
     Class,
 }
 
-#[derive(Drop)]
+#[derive(Clone, Copy)]
 pub enum ScalingRead {
     Value(Scaling),
     Refused(Level3DecodeError),
 }
 
 // Legacy and class declare no scale.
-#[derive(Drop)]
+#[derive(Clone, Copy)]
 pub enum Declared {
     Scale(DeclaredLinearScale),
     Absent,
 }
 
-#[derive(Drop)]
+#[derive(Clone, Copy)]
 pub enum DeclaredScaleRead {
     Value(Declared),
     Refused(Level3DecodeError),
 }
 
-#[derive(Drop)]
+#[derive(Clone, Copy)]
 pub enum Filled {
     Done,
     Refused(Level3DecodeError),

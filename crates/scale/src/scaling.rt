@@ -8,7 +8,7 @@ ghost use Rattle.scale.specs.Outcome.{linear_declared_of};
 use wire::error::Level3DecodeError;
 
 // The minimum, the step and the level count of the halfword and the float scheme.
-#[derive(Drop)]
+#[derive(Clone, Copy)]
 pub struct LinearScale {
     pub value_min: f32,
     pub value_increment: f32,
@@ -16,13 +16,13 @@ pub struct LinearScale {
 }
 
 // The highest valid code, where there is one.
-#[derive(Drop)]
+#[derive(Clone, Copy)]
 pub enum Ceiling {
     At(u16),
     Absent,
 }
 
-#[derive(Drop)]
+#[derive(Clone, Copy)]
 pub struct PrecipScale {
     pub value_min: f32,
     pub value_increment: f32,
@@ -31,7 +31,7 @@ pub struct PrecipScale {
 }
 
 // The scale that a product declares.
-#[derive(Drop)]
+#[derive(Clone, Copy)]
 pub struct DeclaredLinearScale {
     pub value_min: f32,
     pub value_increment: f32,
@@ -39,7 +39,7 @@ pub struct DeclaredLinearScale {
     pub data_floor_code: u8,
 }
 
-#[derive(Drop)]
+#[derive(Clone, Copy)]
 pub enum LinearDeclaredRead {
     Value(DeclaredLinearScale),
     Refused(Level3DecodeError),

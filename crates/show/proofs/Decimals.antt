@@ -8,7 +8,6 @@ use Rattle.show.specs.Words.{is_digit, number_from, no_point, point_at, quotient
 use Rattle.show.specs.declared.words.Number.{Number}
 use Rattle.show.specs.declared.words.Number.TheVariants.{Value, Bad}
 use Rattle.show.specs.declared.words.Decimal.{Decimal}
-use Rattle.show.specs.declared.words.Decimal.TheVariants as Decimal
 
 -- the powers of ten from 10^n on
 abbrev pub powers : ℕ → ℕ → List Float

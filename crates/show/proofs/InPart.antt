@@ -16,7 +16,6 @@ use Rattle.symbology.specs.declared.figures.Terms.{Terms}
 use Rattle.sweep.specs.declared.plan.Head.{Head}
 use Rattle.sweep.specs.declared.sweep.Sweep.{Sweep}
 use Rattle.sweep.specs.declared.sweep.SweepAnswer.{SweepAnswer}
-use Rattle.sweep.specs.declared.sweep.SweepAnswer.TheVariants as SweepAnswer
 use Rattle.sweep.specs.Sweep.{Accepted, sweep_of, sweep_in, answer_of, sweep_with, buffers, Ran}
 use Rattle.show.specs.InPart.{ReadInPart}
 use Rattle.sweep.proofs.Parts.{block_start, parts, sizes}

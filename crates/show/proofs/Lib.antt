@@ -3,4 +3,5 @@ pub mod Digits
 pub mod Examples
 pub mod Gaps
 pub mod InPart
+pub mod Powers
 pub mod Signs

@@ -1,5 +1,9 @@
+pub mod Counts
 pub mod Dates
+pub mod Digits
+pub mod Endings
 pub mod Gaps
 pub mod InPart
+pub mod Printed
 pub mod Rounded
 pub mod Words

@@ -3,13 +3,11 @@ use Rattle.std.specs.Prelude.{ℕ, ◌+◌, ◌-◌, ◌*◌, ◌^◌, Bool, con
 use Rattle.wire.specs.Float.{f32, whole32, ◌⊘◌}
 use Rattle.wire.specs.Text.{same, leading}
 use Rattle.scale.specs.declared.physical.Scheme.{Scheme}
-use Rattle.scale.specs.declared.physical.Scheme.TheVariants as Scheme
 use Rattle.show.specs.declared.words.Number.{Number}
 use Rattle.show.specs.declared.words.Number.TheVariants.{Value, Bad}
 use Rattle.show.specs.declared.words.Decimal.{Decimal}
-use Rattle.show.specs.declared.words.Decimal.TheVariants as Decimal
 use Rattle.show.specs.declared.words.SchemeWord.{SchemeWord}
-use Rattle.show.specs.declared.words.SchemeWord.TheVariants as SchemeWord
+use Rattle.show.specs.declared.words.ClockWord.{ClockWord}
 
 -- one of the digits 0 to 9, in ASCII
 abbrev pub is_digit : ℕ → Bool
@@ -80,3 +78,11 @@ scheme_of word =
     (cond (begins precipitation word) (with_number Scheme.Precipitation (decimal_of (drop (length precipitation) word)))
     (cond (begins legacy word) (with_number Scheme.Legacy (decimal_of (drop (length legacy) word)))
     SchemeWord.Unknown))))
+
+-- a clock, which has at least one digit
+abbrev pub clock_word : Number → ClockWord
+clock_word (Value t) = ClockWord.Value t
+clock_word Bad = ClockWord.Bad
+
+abbrev pub clock_of : List ℕ → ClockWord
+clock_of text = cond (length text == 0) ClockWord.Bad (clock_word (number_from 0 text))

@@ -3,6 +3,7 @@ ghost use Rattle.std.specs.Prelude.{◌≡◌, ◌≤◌, if◌then◌else◌};
 ghost use Rattle.sweep.specs.Sweep.{buffers};
 ghost use Rattle.show.specs.InPart.{ReadInPart};
 
+use crate::text::Text;
 use scale::physical::{DeclaredScaleRead, Filled, Scheme};
 use sweep::plan::HeadRead;
 use sweep::sweep::{Sweep, SweepAnswer};
@@ -80,8 +81,23 @@ fn read_asked(
     read(file, clock, scheme, body, azimuths, codes, physical)
 }
 
+// How the program ends: with a sweep or a head, with a refusal, or with what standard error says.
+#[derive(Clone, Copy)]
+pub enum Ending {
+    Shown,
+    Refused,
+    Failed,
+}
+
 // One set of buffers for both readings: two would not fit the stack.
-pub fn show(gaps: bool, file: &[u8], clock: u64, scheme: Scheme, body: &[u8]) {
+pub fn show(
+    out: &mut Text,
+    gaps: bool,
+    file: &[u8],
+    clock: u64,
+    scheme: Scheme,
+    body: &[u8],
+) -> Ending {
     let mut azimuths = crate::buffers::azimuths();
     let mut codes = crate::buffers::codes();
     let mut physical = crate::buffers::physical();
@@ -97,10 +113,14 @@ pub fn show(gaps: bool, file: &[u8], clock: u64, scheme: Scheme, body: &[u8]) {
         &mut physical,
         &mut marks,
     ) {
-        SweepAnswer::Refused(e) => crate::refusals::print(e),
+        SweepAnswer::Refused(e) => {
+            crate::refusals::print(out, e);
+            Ending::Refused
+        }
         SweepAnswer::Accepted(s) => {
             let n = shown_marks(gaps);
-            crate::picture::print(s, file, &azimuths, &codes, &physical, &marks[..n]);
+            crate::picture::print(out, s, file, &azimuths, &codes, &physical, &marks[..n]);
+            Ending::Shown
         }
     }
 }

@@ -1,5 +1,5 @@
-// The arrays that a program has in place of a heap: about 6.7 MiB, which fit a stack of 8 MiB. There is room for a packet 16 body
-// of 720 radials by 1,840 bins and for its codes, and for the physical values of 720,000 cells.
+// The arrays that are read into: about 6.7 MiB, which fit a stack of 8 MiB. There is room for a packet 16 body of 720 radials by
+// 1,840 bins and for its codes, and for the physical values of 720,000 cells.
 ghost use Rattle.std.specs.Prelude.{◌≡◌, length, replicate};
 ghost use Rattle.wire.specs.Float.{f32, f64};
 

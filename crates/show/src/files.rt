@@ -1,8 +1,12 @@
-// A file named by an argument, read into an array.
-ghost use Rattle.std.specs.Prelude.{◌≡◌, min, length};
-ghost use Rattle.io.specs.Counts.{IsPrefixLen};
+// A file, read into an array.
+ghost use Rattle.std.specs.Prelude.{◌≡◌, ◌≤◌, min, length, IfOk};
+ghost use Rattle.show.specs.Counts.{IsPrefixLen};
 
-#[derive(Drop)]
+use std::fs::{self, Files};
+use std::io;
+use std::io::Read;
+
+#[derive(Clone, Copy)]
 pub enum Loaded {
     // The whole file, of that many bytes.
     Whole(usize),
@@ -21,65 +25,46 @@ pub fn within(n: usize, buf: &[u8]) -> usize
 }
 
 // What follows once the array is full.
-fn rest(fd: i32, n: usize) -> Loaded {
+fn rest(file: &mut impl Read, n: usize) -> io::Result<Loaded> {
     let mut one = [0u8; 1];
-    let got = libc::read(fd, &mut one);
-    if got < 0 {
-        return Loaded::Failed;
-    }
+    let got = file.read(&mut one)?;
     if got == 0 {
-        return Loaded::Whole(n);
+        return Ok(Loaded::Whole(n));
     }
-    Loaded::Part(n)
+    Ok(Loaded::Part(n))
 }
 
-fn read_some(fd: i32, part: &mut [u8]) -> Loaded {
-    let got = libc::read(fd, part);
-    if got < 0 {
-        return Loaded::Failed;
-    }
-    Loaded::Whole(io::count(got, part))
+fn read_some(file: &mut impl Read, part: &mut [u8]) -> io::Result<usize>
+    ensures { IfOk result (λ n. n ≤ length part.new) }
+{
+    file.read(part)
 }
 
 // Reads until the file ends or the array is full.
-fn read_all(fd: i32, buf: &mut [u8]) -> Loaded {
+fn read_all(file: &mut impl Read, buf: &mut [u8]) -> io::Result<Loaded> {
     let mut at = 0usize;
     while at < buf.len() {
-        let got = match read_some(fd, &mut buf[at..]) {
-            Loaded::Whole(n) => n,
-            Loaded::Part(n) => n,
-            Loaded::Failed => return Loaded::Failed,
-        };
+        let got = read_some(file, &mut buf[at..])?;
         if got == 0 {
-            return Loaded::Whole(at);
-        }
-        if buf.len() - at < got {
-            return Loaded::Failed;
+            return Ok(Loaded::Whole(at));
         }
         at += got;
     }
-    rest(fd, at)
+    rest(file, at)
 }
 
-// The file that argument i names, from the array's start on.
-pub fn load(i: usize, buf: &mut [u8]) -> Loaded {
-    let mut path = io::buffer();
-    let n = os::arg(i, &mut path);
-    if os::errno() != 0 {
-        os::fail(b"show: the name of FILE or BODY");
-        return Loaded::Failed;
+fn open_and_read(rt: &impl Files, path: &str, buf: &mut [u8]) -> io::Result<Loaded> {
+    let mut file = fs::open(rt, path)?;
+    read_all(&mut file, buf)
+}
+
+// The file at a path, from the array's start on.
+pub fn load<R: Files + Eprint>(rt: &R, path: &str, buf: &mut [u8]) -> Loaded {
+    match open_and_read(rt, path, buf) {
+        Ok(loaded) => loaded,
+        Err(e) => {
+            let _ = eprintln!(rt; "show: {path}: {e}");
+            Loaded::Failed
+        }
     }
-    let fd = os::open_read(&path[..n]);
-    if fd < 0 {
-        crate::text::warn(b"show: ");
-        os::fail(&path[..n]);
-        return Loaded::Failed;
-    }
-    let loaded = read_all(fd, buf);
-    if let Loaded::Failed = loaded {
-        crate::text::warn(b"show: ");
-        os::fail(&path[..n]);
-    }
-    libc::close(fd);
-    loaded
 }

@@ -5,8 +5,10 @@
 ghost use Rattle.std.specs.Prelude.{◌≡◌, ◌^◌, ◌<◌, ◌≤◌};
 ghost use Rattle.show.specs.Rounded.{rounded, millionths, thousandths};
 
+use crate::text::Text;
+
 // A float's distance from 0, in whole numbers.
-#[derive(Drop)]
+#[derive(Clone, Copy)]
 pub enum Size {
     // So many thousandths or millionths, rounded.
     Units(u64),
@@ -66,80 +68,80 @@ fn millionths32(rest: u64) -> u64
 }
 
 // An f32 below 2^23, from its bits without the sign, exactly: digits x 2^-power.
-fn print_small(negative: bool, rest: u64)
+fn print_small(out: &mut Text, negative: bool, rest: u64)
     requires { rest < 1258291200 }
 {
     let exponent = rest / 0x80_0000;
     let fraction = rest % 0x80_0000;
     if negative {
-        crate::text::say(b"-");
+        crate::text::say(out, b"-");
     }
     if exponent == 0 {
-        crate::text::whole(fraction);
-        crate::text::say(b" x 2^-149");
+        crate::text::whole(out, fraction);
+        crate::text::say(out, b" x 2^-149");
         return;
     }
-    crate::text::whole(fraction + 0x80_0000);
-    crate::text::say(b" x 2^-");
-    crate::text::whole(150 - exponent);
+    crate::text::whole(out, fraction + 0x80_0000);
+    crate::text::say(out, b" x 2^-");
+    crate::text::whole(out, 150 - exponent);
 }
 
 // Spaces up to the width, the sign, and the digits around the point: `unit` parts make a whole.
-pub(crate) fn print_units(negative: bool, n: u64, unit: u64, width: usize)
+pub(crate) fn print_units(out: &mut Text, negative: bool, n: u64, unit: u64, width: usize)
     requires { (0 < unit) × (unit ≤ 1000000) }
 {
     let mut whole = [0u8; 20];
-    let k = io::decimal(n / unit, &mut whole);
+    let k = crate::numbers::decimal(n / unit, &mut whole);
     // A 1 stands before the decimals, so that none of their zeros is lost.
     let mut decimals = [0u8; 20];
-    let j = io::decimal(unit + n % unit, &mut decimals);
+    let j = crate::numbers::decimal(unit + n % unit, &mut decimals);
     let room = crate::text::left(width, k);
     if negative {
-        crate::text::pad(crate::text::left(room, 1), j);
-        crate::text::say(b"-");
+        crate::text::pad(out, crate::text::left(room, 1), j);
+        crate::text::say(out, b"-");
     } else {
-        crate::text::pad(room, j);
+        crate::text::pad(out, room, j);
     }
-    crate::text::say(&whole[..k]);
-    crate::text::say(b".");
-    crate::text::say(&decimals[1..j]);
+    crate::text::say(out, &whole[..k]);
+    crate::text::say(out, b".");
+    crate::text::say(out, &decimals[1..j]);
 }
 
-fn print_size(negative: bool, size: Size, width: usize) {
+fn print_size(out: &mut Text, negative: bool, size: Size, width: usize) {
     match size {
-        Size::Units(n) => print_units(negative, n, 1000, width),
+        Size::Units(n) => print_units(out, negative, n, 1000, width),
         Size::Infinite => {
             if negative {
-                crate::text::right(b"-inf", width);
+                crate::text::right(out, b"-inf", width);
             } else {
-                crate::text::right(b"inf", width);
+                crate::text::right(out, b"inf", width);
             }
         }
         Size::Large { digits, power } => {
             if negative {
-                crate::text::say(b"-");
+                crate::text::say(out, b"-");
             }
-            crate::text::whole(digits);
-            crate::text::say(b" x 2^");
-            crate::text::whole(power);
+            crate::text::whole(out, digits);
+            crate::text::say(out, b" x 2^");
+            crate::text::whole(out, power);
         }
     }
 }
 
 // An f64 with three decimals at the right end of a column.
-pub fn double(x: f64, width: usize) {
+pub fn double(out: &mut Text, x: f64, width: usize) {
     if x != x {
-        crate::text::right(b"nan", width);
+        crate::text::right(out, b"nan", width);
         return;
     }
     let bits = f64::to_bits(x);
     let size = size64(bits % 0x8000_0000_0000_0000);
-    print_size(0x8000_0000_0000_0000 <= bits, size, width);
+    print_size(out, 0x8000_0000_0000_0000 <= bits, size, width);
 }
 
 // An f32 with three decimals; an f64 holds it exactly.
-pub fn single(x: f32, width: usize) {
-    double(std::num::f32_to_f64_with_nan(x), width);
+pub fn single(out: &mut Text, x: f32, width: usize) {
+    double(out, std::num::f32_to_f64_with_nan(x), width);
 }
 
 fn wide(x: u32) -> u64
@@ -149,9 +151,9 @@ fn wide(x: u32) -> u64
 }
 
 // An f32 with six decimals.
-pub fn fine(x: f32, width: usize) {
+pub fn fine(out: &mut Text, x: f32, width: usize) {
     if x != x {
-        crate::text::right(b"nan", width);
+        crate::text::right(out, b"nan", width);
         return;
     }
     let bits = f32::to_bits(x);
@@ -161,21 +163,21 @@ pub fn fine(x: f32, width: usize) {
         let n = millionths32(digits);
         if n == 0 {
             if digits != 0 {
-                print_small(0x8000_0000 <= bits, digits);
+                print_small(out, 0x8000_0000 <= bits, digits);
                 return;
             }
         }
-        print_units(0x8000_0000 <= bits, n, 1000000, width);
+        print_units(out, 0x8000_0000 <= bits, n, 1000000, width);
         return;
     }
-    single(x, width);
+    single(out, x, width);
 }
 
 // A cell's value: - where it has none.
-pub fn cell(x: f32, width: usize) {
+pub fn cell(out: &mut Text, x: f32, width: usize) {
     if x != x {
-        crate::text::right(b"-", width);
+        crate::text::right(out, b"-", width);
         return;
     }
-    single(x, width);
+    single(out, x, width);
 }

@@ -2,7 +2,13 @@
 // answers, the one with gaps where the word is given. With FILE alone it prints the head, which needs no scheme.
 //
 // An accepted sweep goes to standard output as text, a refusal as one line that begins `refused:`. What keeps the program from
-// asking, as a wrong argument or a file that can't be read, goes to standard error.
+// asking, as a wrong argument or a file that can't be read, goes to standard error. The exit status is 0 for a sweep or a head, 1 for
+// a refusal, 2 for anything else.
+#![tactic(auto)]
+
+ghost use Rattle.std.specs.Prelude.{◌≡◌};
+ghost use Rattle.show.specs.Endings.{status_of};
+
 use scale::physical::Scheme;
 use sweep::plan::HeadRead;
 
@@ -11,129 +17,226 @@ mod buffers;
 mod dates;
 mod files;
 mod floats;
+mod numbers;
 mod picture;
 mod refusals;
 mod text;
 mod words;
 
+use answer::Ending;
 use files::Loaded;
+use std::fs::Files;
+use std::io;
+use std::process::ExitCode;
+use std::rt::Clock;
+use text::Text;
 use words::{ClockWord, SchemeWord};
 
-fn print_usage() {
-    text::warn(b"usage: show FILE [BODY SCHEME [CLOCK] [gaps]]\n");
-    text::warn(b"  FILE    the product file; its first 4096 bytes are read\n");
-    text::warn(b"          without BODY and SCHEME its head alone is printed\n");
-    text::warn(b"  BODY    the unpacked symbology body, at most 1400000 bytes\n");
-    text::warn(b"  SCHEME  halfword, float, precipitation:FACTOR, legacy:POSTSCALE or class\n");
-    text::warn(b"          FACTOR and POSTSCALE are numbers such as 1, 25.4 or 0.01: at most\n");
-    text::warn(b"          7 digits beside leading zeros, at most 10 after the point\n");
-    text::warn(b"  CLOCK   the time now in seconds since 1970; without it the system's clock\n");
-    text::warn(b"  gaps    a radial whose data make no row is drawn as a gap, not refused\n");
+fn print_usage(rt: &impl Eprint) {
+    text::warn(rt, "usage: show FILE [BODY SCHEME [CLOCK] [gaps]]\n");
+    text::warn(
+        rt,
+        "  FILE    the product file; its first 4096 bytes are read\n",
+    );
+    text::warn(
+        rt,
+        "          without BODY and SCHEME its head alone is printed\n",
+    );
+    text::warn(
+        rt,
+        "  BODY    the unpacked symbology body, at most 1400000 bytes\n",
+    );
+    text::warn(
+        rt,
+        "  SCHEME  halfword, float, precipitation:FACTOR, legacy:POSTSCALE or class\n",
+    );
+    text::warn(
+        rt,
+        "          FACTOR and POSTSCALE are numbers such as 1, 25.4 or 0.01: at most\n",
+    );
+    text::warn(
+        rt,
+        "          7 digits beside leading zeros, at most 10 after the point\n",
+    );
+    text::warn(
+        rt,
+        "  CLOCK   the time now in seconds since 1970; without it the system's clock\n",
+    );
+    text::warn(
+        rt,
+        "  gaps    a radial whose data make no row is drawn as a gap, not refused\n",
+    );
 }
 
 // The file's first bytes, the body, and the answer.
-fn run(gaps: bool, scheme: Scheme, clock: u64) {
+fn run<R: Files + Eprint>(
+    rt: &R,
+    out: &mut Text,
+    file_name: &str,
+    body_name: &str,
+    gaps: bool,
+    scheme: Scheme,
+    clock: u64,
+) -> Ending {
     let mut file = buffers::file_bytes();
-    let file_len = match files::load(1, &mut file) {
-        Loaded::Failed => return,
+    let file_len = match files::load(rt, file_name, &mut file) {
+        Loaded::Failed => return Ending::Failed,
         Loaded::Whole(n) => n,
         Loaded::Part(n) => n,
     };
     let mut body = buffers::body_bytes();
-    let body_len = match files::load(2, &mut body) {
-        Loaded::Failed => return,
+    let body_len = match files::load(rt, body_name, &mut body) {
+        Loaded::Failed => return Ending::Failed,
         Loaded::Whole(n) => n,
         Loaded::Part(_) => {
             text::warn(
-                b"show: the body has more than 1400000 bytes, for which this program has no room;",
+                rt,
+                "show: the body has more than 1400000 bytes, for which this program has no room;",
             );
-            text::warn(b" the library reads bodies of any length\n");
-            return;
+            text::warn(rt, " the library reads bodies of any length\n");
+            return Ending::Failed;
         }
     };
     let f = files::within(file_len, &file);
     let b = files::within(body_len, &body);
     if words::starts_with(&body[..b], b"BZh") {
         text::warn(
-            b"show: BODY begins with BZh: it is still packed; unpack the bzip2 stream first,",
+            rt,
+            "show: BODY begins with BZh: it is still packed; unpack the bzip2 stream first,",
         );
-        text::warn(b" as bunzip2 -c BODY does\n");
-        return;
+        text::warn(rt, " as bunzip2 -c BODY does\n");
+        return Ending::Failed;
     }
-    answer::show(gaps, &file[..f], clock, scheme, &body[..b]);
+    answer::show(out, gaps, &file[..f], clock, scheme, &body[..b])
 }
 
 // The head of a file; class has no scale fields, so that no scheme has a say.
-fn show_head(file: &[u8], clock: u64) {
+fn show_head(out: &mut Text, file: &[u8], clock: u64) -> Ending {
     match sweep::plan::read_head(Scheme::Class, file, clock) {
-        HeadRead::Refused(e) => refusals::print(e),
-        HeadRead::Value(h) => picture::print_head(h, file),
+        HeadRead::Refused(e) => {
+            refusals::print(out, e);
+            Ending::Refused
+        }
+        HeadRead::Value(h) => {
+            picture::print_head(out, h, file);
+            Ending::Shown
+        }
     }
 }
 
 // The file's first bytes, and its head by the system's clock.
-fn run_head() {
-    let clock = match words::clock_argument(2, 2) {
+fn run_head<R: Files + Clock + Eprint>(rt: &R, out: &mut Text, file_name: &str) -> Ending {
+    let clock = match words::system_clock(rt) {
         ClockWord::Value(t) => t,
-        ClockWord::Bad => return,
+        ClockWord::Bad => return Ending::Failed,
         ClockWord::Missing => {
-            text::warn(b"show: the system has no time; give BODY, SCHEME and CLOCK\n");
-            return;
+            text::warn(
+                rt,
+                "show: the system has no time; give BODY, SCHEME and CLOCK\n",
+            );
+            return Ending::Failed;
         }
     };
     let mut file = buffers::file_bytes();
-    let file_len = match files::load(1, &mut file) {
-        Loaded::Failed => return,
+    let file_len = match files::load(rt, file_name, &mut file) {
+        Loaded::Failed => return Ending::Failed,
         Loaded::Whole(n) => n,
         Loaded::Part(n) => n,
     };
     let f = files::within(file_len, &file);
-    show_head(&file[..f], clock);
+    show_head(out, &file[..f], clock)
 }
 
-fn main() {
-    let count = os::arg_count();
+// What the arguments ask for; the first is the program's name.
+fn run_words<R: Files + Clock + Eprint>(rt: &R, out: &mut Text, all: &[String]) -> Ending {
+    let count = all.len();
     if count == 2 {
-        run_head();
-        return;
+        return run_head(rt, out, all[1].as_str());
     }
     // The words without gaps; SCHEME is never taken for it.
     let mut words = count;
     let mut gaps = false;
     if 4 < count {
-        gaps = words::gaps_argument(count - 1);
+        gaps = words::gaps_argument(all, count - 1);
         if gaps {
             words = count - 1;
         }
     }
     if words < 4 || 5 < words {
-        print_usage();
-        return;
+        print_usage(rt);
+        return Ending::Failed;
     }
-    let scheme = match words::scheme_argument(3) {
+    let scheme = match words::scheme_argument(all, 3) {
         SchemeWord::Value(s) => s,
         SchemeWord::Unknown => {
-            text::warn(b"show: SCHEME is not one of those below\n");
-            print_usage();
-            return;
+            text::warn(rt, "show: SCHEME is not one of those below\n");
+            print_usage(rt);
+            return Ending::Failed;
         }
         SchemeWord::BadNumber => {
-            text::warn(b"show: the number in SCHEME is not one as described below\n");
-            print_usage();
-            return;
+            text::warn(
+                rt,
+                "show: the number in SCHEME is not one as described below\n",
+            );
+            print_usage(rt);
+            return Ending::Failed;
         }
     };
-    let clock = match words::clock_argument(4, words) {
+    let clock = match words::clock_argument(rt, &all[..words], 4) {
         ClockWord::Value(t) => t,
         ClockWord::Bad => {
-            text::warn(b"show: CLOCK is not a whole number of at most 15 digits\n");
-            print_usage();
-            return;
+            text::warn(
+                rt,
+                "show: CLOCK is not a whole number of at most 15 digits\n",
+            );
+            print_usage(rt);
+            return Ending::Failed;
         }
         ClockWord::Missing => {
-            text::warn(b"show: the system has no time; give CLOCK\n");
-            return;
+            text::warn(rt, "show: the system has no time; give CLOCK\n");
+            return Ending::Failed;
         }
     };
-    run(gaps, scheme, clock);
+    run(
+        rt,
+        out,
+        all[1].as_str(),
+        all[2].as_str(),
+        gaps,
+        scheme,
+        clock,
+    )
+}
+
+fn arguments(rt: &HostRuntime) -> io::Result<Vec<String>> {
+    Ok(std::env::args(rt)?.collect(rt.alloc())?)
+}
+
+// The exit status.
+fn status(ending: Ending) -> u8
+    ensures { result ≡ status_of ending }
+{
+    match ending {
+        Ending::Shown => 0,
+        Ending::Refused => 1,
+        Ending::Failed => 2,
+    }
+}
+
+fn fail(rt: &HostRuntime, what: &str, error: io::Error) -> ExitCode {
+    let _ = eprintln!(rt; "show: {what}: {error}");
+    ExitCode::from(status(Ending::Failed))
+}
+
+fn main(rt: HostRuntime) -> ExitCode {
+    let words = match arguments(&rt) {
+        Ok(words) => words,
+        Err(e) => return fail(&rt, "the arguments", e),
+    };
+    let mut out = Text::new(rt.alloc());
+    let ending = run_words(&rt, &mut out, words.as_slice());
+    if let Err(e) = out.write(&rt) {
+        return fail(&rt, "the output could not be written", e);
+    }
+    ExitCode::from(status(ending))
 }

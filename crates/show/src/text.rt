@@ -1,12 +1,48 @@
-// Text and whole numbers on standard output, and lines on standard error.
-ghost use Rattle.std.specs.Prelude.{◌≡◌, ◌-◌, ◌≤◌, unsigned_abs};
+// Text and whole numbers for standard output, which are written at the end, all at once, and lines on standard error.
+ghost use Rattle.std.specs.Prelude.{◌≡◌, ◌-◌, ◌≤◌, unsigned_abs, [], ◌++◌, IsOk};
+ghost use Rattle.show.specs.Printed.{IsPrinted};
 
-pub fn say(s: &[u8]) {
-    io::write_all(1, s);
+use std::alloc::{AllocError, Global};
+use std::io;
+
+// What was printed up to now. From the first piece on for which there is no memory, nothing more is taken.
+#[derive(Drop)]
+pub struct Text {
+    bytes: Vec<u8>,
+    room: Result<(), AllocError>,
 }
 
-pub fn warn(s: &[u8]) {
-    io::write_all(2, s);
+impl Text {
+    pub fn new(alloc: Global) -> Text
+        ensures { IsPrinted result [] }
+    {
+        Text {
+            bytes: Vec::new(alloc),
+            room: Ok(()),
+        }
+    }
+
+    // To standard output: all of it, or an error.
+    pub fn write(&self, rt: &impl Print) -> io::Result<()>
+        ensures { IsOk result → IsOk self.now.room }
+    {
+        self.room?;
+        rt.write_all(self.bytes.as_slice())
+    }
+}
+
+pub fn say(out: &mut Text, s: &[u8])
+    ensures taken { IsOk out.new.room → IsPrinted out.new (out.old.bytes.items ++ s.now) }
+    ensures stays_short { IsOk out.new.room → IsOk out.old.room }
+{
+    if out.room.is_ok() {
+        out.room = out.bytes.extend_from_slice(s);
+    }
+}
+
+// A warning that can't be written is lost.
+pub fn warn(rt: &impl Eprint, s: &str) {
+    let _ = rt.eprint(s);
 }
 
 // What is left of a width.
@@ -17,38 +53,40 @@ pub fn left(width: usize, used: usize) -> usize
 }
 
 // Spaces up to a width of which some is used.
-pub fn pad(width: usize, used: usize) {
+pub fn pad(out: &mut Text, width: usize, used: usize) {
     let blank = [b' '; 32];
     let n = left(width, used);
     if n <= 32 {
-        say(&blank[..n]);
+        say(out, &blank[..n]);
     }
 }
 
 // Text at the right end of a column.
-pub fn right(s: &[u8], width: usize) {
-    pad(width, s.len());
-    say(s);
+pub fn right(out: &mut Text, s: &[u8], width: usize) {
+    pad(out, width, s.len());
+    say(out, s);
 }
 
 // A whole number.
-pub fn whole(n: u64) {
-    io::print_decimal(1, n);
+pub fn whole(out: &mut Text, n: u64) {
+    let mut digits = [0u8; 20];
+    let k = crate::numbers::decimal(n, &mut digits);
+    say(out, &digits[..k]);
 }
 
-pub fn size(n: usize) {
-    whole(n as u64);
+pub fn size(out: &mut Text, n: usize) {
+    whole(out, n as u64);
 }
 
 // A whole number at the right end of a column.
-pub fn right_whole(n: u64, width: usize) {
+pub fn right_whole(out: &mut Text, n: u64, width: usize) {
     let mut digits = [0u8; 20];
-    let k = io::decimal(n, &mut digits);
-    right(&digits[..k], width);
+    let k = crate::numbers::decimal(n, &mut digits);
+    right(out, &digits[..k], width);
 }
 
-pub fn right_size(n: usize, width: usize) {
-    right_whole(n as u64, width);
+pub fn right_size(out: &mut Text, n: usize, width: usize) {
+    right_whole(out, n as u64, width);
 }
 
 pub fn wide_signed(x: i16) -> i32
@@ -68,21 +106,21 @@ pub fn distance(z: i32) -> usize
 }
 
 // A signed number.
-pub fn signed(z: i32) {
+pub fn signed(out: &mut Text, z: i32) {
     if z < 0 {
-        say(b"-");
+        say(out, b"-");
     }
-    size(distance(z));
+    size(out, distance(z));
 }
 
-pub fn right_signed(z: i32, width: usize) {
+pub fn right_signed(out: &mut Text, z: i32, width: usize) {
     let mut digits = [0u8; 20];
-    let k = io::decimal(distance(z) as u64, &mut digits);
+    let k = crate::numbers::decimal(distance(z) as u64, &mut digits);
     if z < 0 {
-        pad(left(width, 1), k);
-        say(b"-");
-        say(&digits[..k]);
+        pad(out, left(width, 1), k);
+        say(out, b"-");
+        say(out, &digits[..k]);
         return;
     }
-    right(&digits[..k], width);
+    right(out, &digits[..k], width);
 }

@@ -1,20 +1,22 @@
 // The arguments SCHEME and CLOCK, and the word gaps.
 ghost use Rattle.std.specs.Prelude.{◌≡◌, ◌^◌, ◌≤◌};
 ghost use Rattle.wire.specs.Float.{f32};
-ghost use Rattle.show.specs.Words.{number_from, point_at, quotient_of, decimal_of, with_number, begins, scheme_of, gaps};
+ghost use Rattle.show.specs.Words.{number_from, point_at, quotient_of, decimal_of, with_number, begins, scheme_of, clock_of, gaps};
 ghost use Rattle.wire.specs.Text.{same};
 ghost use Rattle.scale.specs.declared.physical.Scheme.TheVariants as Scheme;
 
 use scale::physical::Scheme;
+use std::rt::Clock;
+use std::time::{SystemTime, UNIX_EPOCH};
 
-#[derive(Drop)]
+#[derive(Clone, Copy)]
 pub enum SchemeWord {
     Value(Scheme),
     Unknown,
     BadNumber,
 }
 
-#[derive(Drop)]
+#[derive(Clone, Copy)]
 pub enum ClockWord {
     Value(u64),
     Bad,
@@ -22,14 +24,14 @@ pub enum ClockWord {
 }
 
 // A whole number of at most 15 digits beside leading zeros.
-#[derive(Drop)]
+#[derive(Clone, Copy)]
 pub enum Number {
     Value(u64),
     Bad,
 }
 
 // A decimal number's nearest f32.
-#[derive(Drop)]
+#[derive(Clone, Copy)]
 pub enum Decimal {
     Value(f32),
     Bad,
@@ -191,13 +193,19 @@ fn scheme_of(word: &[u8]) -> SchemeWord
     SchemeWord::Unknown
 }
 
-pub fn scheme_argument(i: usize) -> SchemeWord {
-    let mut word = [0u8; 64];
-    let n = os::arg(i, &mut word);
-    if os::errno() != 0 {
-        return SchemeWord::Unknown;
+// How long a SCHEME or CLOCK may be; a longer word is none.
+const MAX_WORD: usize = 64;
+
+pub fn scheme_argument(words: &[String], i: usize) -> SchemeWord {
+    match words.get(i) {
+        Some(word) => {
+            if MAX_WORD < word.len() {
+                return SchemeWord::Unknown;
+            }
+            scheme_of(word.as_bytes())
+        }
+        None => SchemeWord::Unknown,
     }
-    scheme_of(&word[..n])
 }
 
 fn is_gaps(word: &[u8]) -> bool
@@ -207,39 +215,46 @@ fn is_gaps(word: &[u8]) -> bool
 }
 
 // Whether argument i is the word gaps.
-pub fn gaps_argument(i: usize) -> bool {
-    let mut word = [0u8; 64];
-    let n = os::arg(i, &mut word);
-    if os::errno() != 0 {
-        return false;
+pub fn gaps_argument(words: &[String], i: usize) -> bool {
+    match words.get(i) {
+        Some(word) => is_gaps(word.as_bytes()),
+        None => false,
     }
-    is_gaps(&word[..n])
 }
 
-fn system_clock() -> ClockWord {
-    let mut t = 0i64;
-    let now = libc::time(&mut t);
-    if now < 0 {
-        return ClockWord::Missing;
+pub fn system_clock(rt: &impl Clock) -> ClockWord {
+    let now = match SystemTime::now(rt) {
+        Ok(now) => now,
+        Err(_) => return ClockWord::Missing,
+    };
+    match now.duration_since(UNIX_EPOCH) {
+        Ok(since) => ClockWord::Value(since.as_secs()),
+        Err(_) => ClockWord::Missing,
     }
-    ClockWord::Value(now as u64)
+}
+
+// The clock that a word gives.
+fn clock_of(word: &[u8]) -> ClockWord
+    ensures { result ≡ clock_of word.now }
+{
+    if word.len() == 0 {
+        return ClockWord::Bad;
+    }
+    match number_from(0, word) {
+        Number::Value(t) => ClockWord::Value(t),
+        Number::Bad => ClockWord::Bad,
+    }
 }
 
 // Argument i where there is one, else the system's clock.
-pub fn clock_argument(i: usize, words: usize) -> ClockWord {
-    if words <= i {
-        return system_clock();
-    }
-    let mut word = [0u8; 64];
-    let n = os::arg(i, &mut word);
-    if os::errno() != 0 {
-        return ClockWord::Bad;
-    }
-    if n == 0 {
-        return ClockWord::Bad;
-    }
-    match number_from(0, &word[..n]) {
-        Number::Value(t) => ClockWord::Value(t),
-        Number::Bad => ClockWord::Bad,
+pub fn clock_argument(rt: &impl Clock, words: &[String], i: usize) -> ClockWord {
+    match words.get(i) {
+        Some(word) => {
+            if MAX_WORD < word.len() {
+                return ClockWord::Bad;
+            }
+            clock_of(word.as_bytes())
+        }
+        None => system_clock(rt),
     }
 }

@@ -1,5 +1,5 @@
 -- When the sweep reading with gaps is the ordinary one. Assumes nothing.
-use Prim.Native.Nat.{ℕ, zero, suc, ◌+◌, ◌*◌, ◌<◌, ◌≤◌}
+use Prim.Native.Nat.{ℕ, zero, suc, ◌<◌, ◌≤◌}
 use native.Mathlib.Omega.{arith}
 use mathlib.Core.List.{List, [], ◌∷◌, ◌++◌, map}
 use mathlib.Core.Path.{◌≡◌, refl, sym, ap, ◌∙◌, subst}
@@ -7,7 +7,7 @@ use lib.ListN.{length, get_or, get_or-map}
 use lib.Dec.{ltb}
 use lib.Ieee.{Float}
 use borrow.Author.Tests.{le-ltb}
-use Rattle.wire.specs.Result.{Result, accepted, refused, then}
+use Rattle.wire.specs.Result.{Result, accepted, refused}
 use Rattle.wire.specs.Reading.{Read, Given, run, gaps, marked}
 use Rattle.wire.proofs.Results.{one_value, through, passed}
 use Rattle.wire.proofs.Gaps.{Whole, whole_row, all_whole, gaps_accepted, no_gaps}

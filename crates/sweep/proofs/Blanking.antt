@@ -1,12 +1,12 @@
 -- The loops that lay NaN over rows. Assumes nothing.
 use Prim.Native.Nat.{ℕ, zero, suc, ◌+◌, ◌-◌, ◌*◌, ◌≤◌, ◌<◌}
-use native.Mathlib.Nat.{zero-mul, suc-mul, zero-add}
+use native.Mathlib.Nat.{suc-mul, zero-add}
 use native.Mathlib.Numerals.{add-one}
 use native.Mathlib.Omega.{arith}
 use mathlib.Core.List.{List, [], ◌∷◌, ◌++◌, append_assoc}
 use mathlib.Core.Path.{◌≡◌, refl, sym, ap, ap₂, ◌∙◌}
 use lib.ListN.{length, get_or, set, take, drop, replicate, length-set, length-drop, length-append, length-replicate, get_or-replicate, take-append-drop, drop_of_length-le}
-use lib.Seq.{take-suc, take-suc-set, take_all, take-add, drop-cons, drop-drop, length-take-le, take-append-le, drop-append-le}
+use lib.Seq.{take-suc, take-suc-set, take_all, drop-cons, length-take-le, take-append-le, drop-append-le}
 use lib.Ieee.{Float, nan}
 use borrow.Rule.Slice.PartMut.{put_mid, mid_of}
 use Rattle.wire.proofs.Parts.{part_take, part_drop, part_long}

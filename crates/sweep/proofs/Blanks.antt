@@ -4,7 +4,7 @@ use native.Mathlib.Omega.{arith}
 use native.Mathlib.Nat.{not-suc-le-zero, le_of_suc-le-suc, zero-mul, suc-mul, add_comm}
 use mathlib.Core.List.{List, [], ◌∷◌, ◌++◌}
 use mathlib.Core.Path.{◌≡◌, refl, sym, ap, ◌∙◌}
-use lib.ListN.{length, get_or, take, drop, replicate, length-drop, length-replicate, length-append, take-append-drop}
+use lib.ListN.{length, get_or, take, drop, replicate, length-drop, length-replicate, take-append-drop}
 use lib.Seq.{take_at, drop_at, drop-drop, length-take-le}
 use lib.Ieee.{Float, nan}
 use Rattle.sweep.specs.GapSweep.{blanked}

@@ -14,7 +14,6 @@ use Rattle.scale.specs.declared.physical.Scheme.{Scheme}
 use Rattle.symbology.specs.Words.{Bytes, DamageInWords}
 use Rattle.sweep.specs.declared.sweep.Sweep.{Sweep}
 use Rattle.sweep.specs.declared.sweep.SweepAnswer.{SweepAnswer}
-use Rattle.sweep.specs.declared.sweep.SweepAnswer.TheVariants as SweepAnswer
 use Rattle.sweep.specs.Sweep.{Buffers, buffers, Ran}
 use Rattle.sweep.specs.Demand3.{SameLengths, TwoRuns}
 use Rattle.sweep.proofs.TwoRuns.{two_runs}

@@ -9,7 +9,6 @@ use borrow.Author.Tests.{lt-ltb}
 use Rattle.wire.specs.Result.{accepted}
 use Rattle.scale.specs.Physical.{has_level}
 use Rattle.scale.specs.declared.physical.Scheme.{Scheme}
-use Rattle.scale.specs.declared.physical.Scheme.TheVariants as Scheme
 use Rattle.symbology.specs.declared.figures.Packet.{Packet}
 use Rattle.symbology.specs.declared.figures.Packet.TheVariants.{Packet16, PacketAf1f, Packet28}
 use Rattle.symbology.specs.Rows.{code_bits}

@@ -22,7 +22,6 @@ use Rattle.sweep.specs.declared.plan.Head.{Head}
 use Rattle.sweep.specs.declared.plan.HeadRead.TheVariants as HeadRead
 use Rattle.sweep.specs.declared.sweep.Sweep.{Sweep}
 use Rattle.sweep.specs.declared.sweep.SweepAnswer.{SweepAnswer}
-use Rattle.sweep.specs.declared.sweep.SweepAnswer.TheVariants as SweepAnswer
 use Rattle.sweep.specs.Sweep.{head_of, head_read_of, allowed, room_for, Accepted, finish, sweep_of, answer_of}
 use Rattle.sweep.specs.GapSweep.{GapSweep, gap_finish, gap_sweep_of}
 use Rattle.sweep.specs.MergeSweep.{readied, merge_sweep_of}

@@ -53,7 +53,7 @@ module _ (scheme : Scheme) (file : List ℕ) (clock : ℕ) (b b' : List ℕ) (na
     -- where symbology accepts the second body, every changed radial's data make a row
     all_make : (g : Given Symbology.Sweep) → run symbology b' 0 ≡ accepted g → AllMake p.sweep.figures b b'
     all_make g e r lt h =
-        (Dec.not_not (makes? _ _ _)).0 λ none.
+        (Dec.not-not (makes? _ _ _)).0 λ none.
         let bad = c.refusal.exactly.1 (r, lt, h, none) in
         clash g bad.0 (sym bad.1 ∙ e)
 

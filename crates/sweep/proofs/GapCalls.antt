@@ -14,7 +14,6 @@ use borrow.Rule.Slice.Know.{Fit}
 use Rattle.scale.specs.declared.physical.Scheme.{Scheme}
 use Rattle.sweep.specs.declared.sweep.Sweep.{Sweep}
 use Rattle.sweep.specs.declared.sweep.SweepAnswer.{SweepAnswer}
-use Rattle.sweep.specs.declared.sweep.SweepAnswer.TheVariants as SweepAnswer
 use Rattle.symbology.specs.Words.{DamageInWords}
 use Rattle.sweep.specs.Sweep.{Ran}
 use Rattle.sweep.specs.GapSweep.{GapBuffers, gap_buffers, GapRan}

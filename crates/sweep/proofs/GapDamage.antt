@@ -11,7 +11,6 @@ use Rattle.wire.specs.Reading.{marked}
 use Rattle.head.specs.Header.{message_header}
 use Rattle.scale.specs.Physical.{physical_of}
 use Rattle.scale.specs.declared.physical.Scheme.{Scheme}
-use Rattle.symbology.specs.declared.figures.Figures.{Figures}
 use Rattle.symbology.specs.Answers.{joined, mark_of, shown}
 use Rattle.symbology.specs.Rows.{row_of}
 use Rattle.symbology.specs.Places.{Placed}

@@ -20,12 +20,10 @@ use Rattle.scale.specs.declared.physical.Scheme.{Scheme}
 use Rattle.symbology.specs.Answers.{GapPicture, gap_picture_of, too_few, room_in, admit, gaps_on_terms, gap_decode_for, gap_figures_in, figures_of, DecodesWithGaps}
 use Rattle.symbology.specs.declared.figures.Figures.{Figures}
 use Rattle.symbology.specs.declared.figures.FiguresRead.{FiguresRead}
-use Rattle.symbology.specs.declared.figures.FiguresRead.TheVariants as FiguresRead
 use Rattle.symbology.specs.declared.figures.Terms.{Terms}
 use Rattle.sweep.specs.declared.plan.Head.{Head}
 use Rattle.sweep.specs.declared.sweep.Sweep.{Sweep}
 use Rattle.sweep.specs.declared.sweep.SweepAnswer.{SweepAnswer}
-use Rattle.sweep.specs.declared.sweep.SweepAnswer.TheVariants as SweepAnswer
 use Rattle.wire.proofs.Results.{clash, one_value, one_refusal, through, passed}
 use Rattle.sweep.specs.Sweep.{head_of, allowed, room_for, finish, answer_of, sweep_with, terms_for}
 use Rattle.sweep.specs.GapSweep.{GapSweep, blanked, blanked_lent, gap_finish, gap_sweep_of, gap_sweep_in, gap_buffers, MarkedRan}

@@ -52,7 +52,7 @@ unfolding RowInWords
 makes? Packet16 bins bytes = yes tt
 makes? PacketAf1f bins bytes = Dec.of_iff (row_of_runs bins 0 bytes).row (made? (row_af1f bins 0 bytes))
 makes? Packet28 bins bytes =
-    ⊎_elim (λ none. yes (λ k lt. (Dec.not_not (in-range? bytes k)).0 (none k lt))) (λ (k, lt, out, low). no (λ every. out (every k lt)))
+    ⊎_elim (λ none. yes (λ k lt. (Dec.not-not (in-range? bytes k)).0 (none k lt))) (λ (k, lt, out, low). no (λ every. out (every k lt)))
     (first (λ k. ¬ (InRange bytes k)) (λ k. Dec.not (in-range? bytes k)) bins)
 
 changed? : (packet : Packet) (b b' : List ℕ) (r : ℕ) → Dec (ChangedIn packet b b' r)
@@ -72,5 +72,5 @@ module _ (f : Figures) (b b' : List ℕ) where
       → (r : ℕ) × LowestBad f b b' r
   lowest_bad (r, lt, c, k) =
       ⊎_elim (λ none. absurd (none r lt (c, k)))
-      (λ (i, lt, (c, k), low). (i, record { inside = lt; changed = c; no_row = k; lower = λ q l h. (Dec.not_not (row? q)).0 (λ m. low q l (h, m)) }))
+      (λ (i, lt, (c, k), low). (i, record { inside = lt; changed = c; no_row = k; lower = λ q l h. (Dec.not-not (row? q)).0 (λ m. low q l (h, m)) }))
       (first (λ r. ChangedIn f.packet b b' r × ¬ (RowInWords f.packet f.n_bins (data_of f.packet b r b'))) (λ r. Dec.and (changed? f.packet b b' r) (Dec.not (row? r))) f.n_radials)

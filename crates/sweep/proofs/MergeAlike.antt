@@ -22,7 +22,7 @@ use Rattle.symbology.specs.declared.figures.Figures.{Figures}
 use Rattle.symbology.proofs.Containment.{accepted_rows}
 use Rattle.symbology.proofs.RowPlaces.{row_here}
 use Rattle.sweep.specs.declared.plan.Head.{Head}
-use Rattle.sweep.specs.Sweep.{head_of, allowed, finish, Accepted, sweep_of}
+use Rattle.sweep.specs.Sweep.{head_of, allowed, finish, Accepted}
 use Rattle.sweep.specs.GapSweep.{gap_finish, gap_sweep_of}
 use Rattle.sweep.specs.MergeSweep.{readied, merge_sweep_of}
 use Rattle.sweep.specs.Receptions.{MergedAlike}

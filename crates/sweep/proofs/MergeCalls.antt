@@ -2,7 +2,7 @@
 use Prim.Native.Nat.{ℕ, ◌≤◌}
 use native.Mathlib.Omega.{arith}
 use mathlib.Core.List.{List}
-use mathlib.Core.Path.{◌≡◌, sym, subst}
+use mathlib.Core.Path.{◌≡◌, subst}
 use lib.ListN.{length}
 use contract.Lifetimes.{Lfts}
 use borrow.Fn.World.{ArgsD, ResD}
@@ -14,9 +14,8 @@ use borrow.Rule.Slice.Know.{Fit}
 use Rattle.scale.specs.declared.physical.Scheme.{Scheme}
 use Rattle.sweep.specs.declared.sweep.Sweep.{Sweep}
 use Rattle.sweep.specs.declared.sweep.SweepAnswer.{SweepAnswer}
-use Rattle.sweep.specs.declared.sweep.SweepAnswer.TheVariants as SweepAnswer
 use Rattle.sweep.specs.Sweep.{Ran}
-use Rattle.sweep.specs.GapSweep.{GapSweep, GapBuffers, gap_buffers, MarkedRan, GapRan}
+use Rattle.sweep.specs.GapSweep.{GapBuffers, gap_buffers, MarkedRan, GapRan}
 use Rattle.sweep.specs.WithGaps.{SameRoom}
 use Rattle.sweep.specs.MergeSweep.{MergeRan}
 use Rattle.sweep.specs.Receptions.{Apart, MergeRuns}

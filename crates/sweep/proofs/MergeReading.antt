@@ -29,7 +29,6 @@ use Rattle.symbology.proofs.RowPlaces.{joined_long}
 use Rattle.symbology.proofs.SameFigures.{figures_are}
 use Rattle.sweep.specs.declared.plan.Head.{Head}
 use Rattle.sweep.specs.declared.sweep.SweepAnswer.{SweepAnswer}
-use Rattle.sweep.specs.declared.sweep.SweepAnswer.TheVariants as SweepAnswer
 use Rattle.sweep.specs.Sweep.{head_of, allowed, packets_for, terms_for}
 use Rattle.sweep.specs.GapSweep.{GapSweep, gap_finish, gap_buffers, MarkedRan}
 use Rattle.sweep.specs.MergeSweep.{readied, merge_sweep_of}

@@ -2,10 +2,10 @@
 use Prim.Native.Nat.{ℕ, zero, suc}
 use mathlib.Core.List.{List, [], ◌∷◌}
 use mathlib.Core.Bool.{true, false, not}
-use mathlib.Core.Path.{◌≡◌, refl, ap, ap₂, ◌∙◌}
+use mathlib.Core.Path.{◌≡◌, refl, ap, ap₂}
 use lib.Ieee.{Float}
 use borrow.Author.Tests.{eq-eqb}
-use Rattle.wire.specs.Result.{Result, accepted}
+use Rattle.wire.specs.Result.{accepted}
 use Rattle.wire.specs.Reading.{Given}
 use Rattle.wire.proofs.Equal.{float_same}
 use Rattle.symbology.specs.Answers.{picture_with}

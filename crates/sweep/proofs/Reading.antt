@@ -17,13 +17,9 @@ use Rattle.scale.specs.Pdb.{value_scaling_linear_hw, value_scaling_float, precip
 use Rattle.scale.specs.Physical.{scale_fields, declared_scale, physical_of, fill_of}
 use Rattle.scale.specs.declared.scaling.DeclaredLinearScale.{DeclaredLinearScale}
 use Rattle.scale.specs.declared.physical.Declared.{Declared}
-use Rattle.scale.specs.declared.physical.Declared.TheVariants as Declared
 use Rattle.scale.specs.declared.physical.DeclaredScaleRead.{DeclaredScaleRead}
-use Rattle.scale.specs.declared.physical.DeclaredScaleRead.TheVariants as DeclaredScaleRead
 use Rattle.scale.specs.declared.physical.Scaling.{Scaling}
-use Rattle.scale.specs.declared.physical.Scaling.TheVariants as Scaling
 use Rattle.scale.specs.declared.physical.Scheme.{Scheme}
-use Rattle.scale.specs.declared.physical.Scheme.TheVariants as Scheme
 use Rattle.symbology.specs.Answers.{Picture, picture_of, asked, too_few, step_of, room_in, admit, decode_for, figures_in, figures_of, Decodes}
 use Rattle.symbology.specs.Symbology.{symbology}
 use Rattle.wire.specs.Reading.{run}
@@ -32,12 +28,10 @@ use Rattle.symbology.specs.declared.figures.Packet.{Packet}
 use Rattle.symbology.specs.declared.figures.Packet.TheVariants.{Packet16, PacketAf1f, Packet28}
 use Rattle.symbology.specs.declared.figures.Packets.TheVariants as Packets
 use Rattle.symbology.specs.declared.figures.FiguresRead.{FiguresRead}
-use Rattle.symbology.specs.declared.figures.FiguresRead.TheVariants as FiguresRead
 use Rattle.symbology.specs.declared.figures.Terms.{Terms}
 use Rattle.sweep.specs.declared.plan.Head.{Head}
 use Rattle.sweep.specs.declared.sweep.Sweep.{Sweep}
 use Rattle.sweep.specs.declared.sweep.SweepAnswer.{SweepAnswer}
-use Rattle.sweep.specs.declared.sweep.SweepAnswer.TheVariants as SweepAnswer
 use Rattle.wire.proofs.Results.{clash, one_value, one_refusal, through, passed}
 use Rattle.sweep.proofs.Parts.{block_start}
 use Rattle.symbology.proofs.RowPlaces.{codes_long}

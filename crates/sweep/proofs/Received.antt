@@ -1,5 +1,5 @@
 -- Two receptions of one accepted body, damaged in different radials: their readings with gaps merge to its picture, or 44. Assumes nothing.
-use Prim.Native.Nat.{ℕ, zero, suc, ◌<◌, suc-le-suc}
+use Prim.Native.Nat.{ℕ, suc, ◌<◌, suc-le-suc}
 use native.Mathlib.Omega.{arith}
 use native.Mathlib.Nat.{zero-add}
 use mathlib.Core.List.{List, [], ◌∷◌, map}

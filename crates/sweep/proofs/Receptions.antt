@@ -2,14 +2,14 @@
 use Prim.Native.Nat.{ℕ, ◌<◌, ◌≤◌}
 use native.Mathlib.Omega.{arith}
 use mathlib.Core.List.{List, [], ◌∷◌}
-use mathlib.Core.Bool.{true, false, not}
+use mathlib.Core.Bool.{false, not}
 use mathlib.Core.Logic.{◌⊎◌, inl, inr, ⊎_elim}
 use mathlib.Core.Path.{◌≡◌, refl, sym, ap, ◌∙◌, subst}
 use lib.ListN.{get_or}
 use Rattle.wire.specs.Refusal.{kind, nat}
 use Rattle.wire.specs.Result.{Result, accepted, refused, then}
-use Rattle.wire.specs.Reading.{Given, run, gaps, frames}
-use Rattle.wire.proofs.Results.{clash, one_value, one_refusal, through}
+use Rattle.wire.specs.Reading.{Given, run, frames}
+use Rattle.wire.proofs.Results.{clash, one_value, one_refusal}
 use Rattle.scale.specs.declared.physical.Scheme.{Scheme}
 use Rattle.symbology.specs.Answers.{gap_picture_of}
 use Rattle.symbology.specs.Damage.{row_in, radial_at, radial_count, Damage}
@@ -22,11 +22,10 @@ use Rattle.symbology.specs.Symbology.{symbology}
 use Rattle.symbology.proofs.Containment.{accepted_rows, makes_or_changed}
 use Rattle.symbology.proofs.Placement.{placed}
 use Rattle.symbology.proofs.Words.{damage_in_words}
-use Rattle.sweep.specs.Sweep.{head_of, allowed, Accepted, sweep_of}
+use Rattle.sweep.specs.Sweep.{allowed, Accepted, sweep_of}
 use Rattle.sweep.specs.GapSweep.{GapSweep, gap_finish, gap_sweep_of}
-use Rattle.sweep.specs.WithGaps.{NoneMarked, SamePicture}
 use Rattle.sweep.specs.MergeSweep.{readied, merge_sweep_of}
-use Rattle.sweep.specs.Receptions.{OtherCodes, Other, LowestOther, Apart, TwoReceptions}
+use Rattle.sweep.specs.Receptions.{OtherCodes, Other, Apart, TwoReceptions}
 use Rattle.sweep.proofs.AsOrdinary.{ordinary_whole}
 use Rattle.sweep.proofs.InWords.{radial_changed, row_is, radial_makes}
 use Rattle.sweep.proofs.Parts.{Parts, parts}

@@ -1,6 +1,6 @@
 -- The values of an accepted halfword sweep are near the exact tenths, and rise with their codes: in the sweep reading's answer, and in the
 -- buffers of any call that the contract of `read_sweep` allows (M-108). Assumes nothing.
-use Prim.Native.Nat.{ℕ, zero, suc, ◌-◌, ◌≤◌, ◌<◌}
+use Prim.Native.Nat.{ℕ, zero, suc, ◌≤◌, ◌<◌}
 use native.Mathlib.Nat.{le_of_suc-le-suc, not-suc-le-zero}
 use native.Mathlib.Omega.{arith}
 use mathlib.Core.List.{List, [], ◌∷◌, map}
@@ -17,7 +17,6 @@ use Rattle.wire.proofs.Results.{through, passed}
 use Rattle.scale.specs.Physical.{declared_scale, physical_of}
 use Rattle.scale.specs.Tenths.{Halfwords}
 use Rattle.scale.specs.declared.physical.Scheme.{Scheme}
-use Rattle.scale.specs.declared.physical.Scheme.TheVariants as Scheme
 use Rattle.scale.proofs.Tenths.{tenths_near, tenths_rise, declared_halfwords}
 use Rattle.symbology.specs.Rows.{code_bits}
 use Rattle.symbology.specs.Words.{Bytes}

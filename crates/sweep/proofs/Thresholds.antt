@@ -14,7 +14,6 @@ use Rattle.scale.specs.Legacy.{levels_of}
 use Rattle.scale.specs.Pdb.{threshold_place, threshold_bytes}
 use Rattle.scale.specs.Physical.{level_of, scale_fields}
 use Rattle.scale.specs.declared.physical.Scheme.{Scheme}
-use Rattle.scale.specs.declared.physical.Scheme.TheVariants as Scheme
 use Rattle.scale.proofs.Thresholds.{only_3, same_values, place_of, refused_too, Copying, Decoding, decoded}
 use Rattle.sweep.specs.declared.plan.Head.{Head}
 use Rattle.sweep.specs.declared.sweep.Sweep.{Sweep}

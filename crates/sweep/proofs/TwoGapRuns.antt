@@ -9,7 +9,6 @@ use Rattle.wire.proofs.Results.{through}
 use Rattle.scale.specs.declared.physical.Scheme.{Scheme}
 use Rattle.sweep.specs.declared.sweep.Sweep.{Sweep}
 use Rattle.sweep.specs.declared.sweep.SweepAnswer.{SweepAnswer}
-use Rattle.sweep.specs.declared.sweep.SweepAnswer.TheVariants as SweepAnswer
 use Rattle.symbology.specs.Words.{Bytes, DamageInWords}
 use Rattle.sweep.specs.Sweep.{Accepted, answer_of, Buffers, read_into, Ran}
 use Rattle.sweep.specs.GapSweep.{GapSweep, gap_sweep_of, GapBuffers, gaps_into, MarkedRan, GapRan}

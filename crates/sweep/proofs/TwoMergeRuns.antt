@@ -12,11 +12,10 @@ use Rattle.scale.specs.declared.physical.Scheme.{Scheme}
 use Rattle.symbology.specs.Words.{Bytes}
 use Rattle.sweep.specs.declared.sweep.Sweep.{Sweep}
 use Rattle.sweep.specs.declared.sweep.SweepAnswer.{SweepAnswer}
-use Rattle.sweep.specs.declared.sweep.SweepAnswer.TheVariants as SweepAnswer
 use Rattle.sweep.specs.Sweep.{Accepted, answer_of, Buffers, read_into, Ran}
-use Rattle.sweep.specs.GapSweep.{GapSweep, GapBuffers, gap_buffers}
+use Rattle.sweep.specs.GapSweep.{GapSweep, GapBuffers}
 use Rattle.sweep.specs.WithGaps.{SameRoom, SamePicture, SameFront, NoneMarked}
-use Rattle.sweep.specs.MergeSweep.{merge_sweep_of, merge_into, MergeRan}
+use Rattle.sweep.specs.MergeSweep.{merge_into, MergeRan}
 use Rattle.sweep.specs.Receptions.{Apart, TwoReceptions, MergeRuns}
 use Rattle.sweep.proofs.TwoRuns.{answer_is}
 use Rattle.sweep.proofs.TwoGapRuns.{same_front}

@@ -12,7 +12,6 @@ use Rattle.symbology.specs.declared.figures.Figures.{Figures}
 use Rattle.symbology.specs.Words.{Bytes, DamageInWords}
 use Rattle.sweep.specs.declared.sweep.Sweep.{Sweep}
 use Rattle.sweep.specs.declared.sweep.SweepAnswer.{SweepAnswer}
-use Rattle.sweep.specs.declared.sweep.SweepAnswer.TheVariants as SweepAnswer
 use Rattle.sweep.specs.Sweep.{Accepted, sweep_of, answer_of, Buffers, read_into, Ran}
 use Rattle.sweep.specs.Demand3.{row_at, RowsKept, Kept, SameLengths, TwoRuns}
 use Rattle.sweep.proofs.RowLaws.{row_front}

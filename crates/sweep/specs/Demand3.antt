@@ -4,7 +4,7 @@
 use Rattle.std.specs.Prelude.{ℕ, ◌+◌, ◌*◌, ◌<◌, List, [], ◌∷◌, map, ◌↔◌, ◌≡◌, length, get_or, take, drop, Float}
 use Rattle.wire.specs.Bytes.{signed}
 use Rattle.wire.specs.Refusal.{Refusal, kind, nat, whole}
-use Rattle.wire.specs.Result.{Result, accepted, refused, then, lent}
+use Rattle.wire.specs.Result.{Result, accepted, refused}
 use Rattle.wire.specs.Text.{leading}
 use Rattle.head.specs.Header.{message_header}
 use Rattle.scale.specs.Physical.{physical_of}
@@ -16,7 +16,6 @@ use Rattle.symbology.specs.Rows.{row_of, reach, words, is_level}
 use Rattle.symbology.specs.Words.{data_of, ChangedIn}
 use Rattle.sweep.specs.declared.sweep.Sweep.{Sweep}
 use Rattle.sweep.specs.declared.sweep.SweepAnswer.{SweepAnswer}
-use Rattle.sweep.specs.declared.sweep.SweepAnswer.TheVariants as SweepAnswer
 use Rattle.sweep.specs.Sweep.{Accepted, sweep_of, answer_of, Buffers}
 use Rattle.sweep.specs.InWords.{RowInWords}
 

@@ -1,7 +1,7 @@
 -- Merging on small inputs, a class sweep of one radial: what each row gives, and the order of the tests.
 use Rattle.std.specs.Prelude.{ℕ, List, [], ◌∷◌, ◌++◌, replicate, ◌≡◌, Float}
 use Rattle.std.specs.Float.{nan}
-use Rattle.wire.specs.Float.{f32, f64}
+use Rattle.wire.specs.Float.{f32}
 use Rattle.wire.specs.Refusal.{kind, nat, buffer}
 use Rattle.wire.specs.Result.{Result, accepted, refused, then}
 use Rattle.wire.specs.declared.error.Buffer.TheVariants as Buffer

@@ -1,16 +1,15 @@
 -- What M-111 asks of merging, beside its definition: b is ordinarily accepted, and b₁ and b₂ come from it by damage to radials of which none
 -- is in both. As in demand 3, all of damage is said in document 01's words.
-use Rattle.std.specs.Prelude.{ℕ, ◌*◌, ◌<◌, ◌≤◌, List, [], ◌∷◌, ◌⊎◌, ◌↔◌, ◌≢◌, ◌≡◌, length, take}
+use Rattle.std.specs.Prelude.{ℕ, ◌<◌, ◌≤◌, List, [], ◌∷◌, ◌⊎◌, ◌↔◌, ◌≢◌, ◌≡◌}
 use Rattle.wire.specs.Refusal.{Refusal, kind, nat, refusal_of}
 use Rattle.wire.specs.Result.{accepted, refused}
 use Rattle.wire.specs.declared.error.Level3DecodeError.{Level3DecodeError}
 use Rattle.scale.specs.declared.physical.Scheme.{Scheme}
 use Rattle.symbology.specs.Rows.{row_of}
-use Rattle.symbology.specs.Words.{Bytes, data_of, ChangedIn, DamageInWords}
+use Rattle.symbology.specs.Words.{data_of, ChangedIn, DamageInWords}
 use Rattle.symbology.specs.declared.figures.Figures.{Figures}
 use Rattle.sweep.specs.declared.sweep.Sweep.{Sweep}
 use Rattle.sweep.specs.declared.sweep.SweepAnswer.{SweepAnswer}
-use Rattle.sweep.specs.declared.sweep.SweepAnswer.TheVariants as SweepAnswer
 use Rattle.sweep.specs.Sweep.{Accepted, sweep_of, Buffers}
 use Rattle.sweep.specs.InWords.{RowInWords}
 use Rattle.sweep.specs.GapSweep.{GapSweep, gap_sweep_of, GapBuffers}

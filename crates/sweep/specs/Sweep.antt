@@ -9,9 +9,7 @@ use Rattle.head.specs.Pdb.{pdb_fields}
 use Rattle.scale.specs.Physical.{scale_fields, declared_scale, physical_of}
 use Rattle.scale.specs.declared.physical.Declared.{Declared}
 use Rattle.scale.specs.declared.physical.Scheme.{Scheme}
-use Rattle.scale.specs.declared.physical.Scheme.TheVariants as Scheme
 use Rattle.scale.specs.declared.physical.Scaling.{Scaling}
-use Rattle.scale.specs.declared.physical.Scaling.TheVariants as Scaling
 use Rattle.symbology.specs.Answers.{Picture, picture_of}
 use Rattle.symbology.specs.declared.figures.Packet.{Packet}
 use Rattle.symbology.specs.declared.figures.Packet.TheVariants.{Packet16, PacketAf1f, Packet28}
@@ -19,13 +17,10 @@ use Rattle.symbology.specs.declared.figures.Figures.{Figures}
 use Rattle.symbology.specs.declared.figures.Terms.{Terms}
 use Rattle.symbology.specs.declared.figures.Room.TheVariants as Room
 use Rattle.symbology.specs.declared.figures.Packets.{Packets}
-use Rattle.symbology.specs.declared.figures.Packets.TheVariants as Packets
 use Rattle.sweep.specs.declared.plan.Head.{Head}
 use Rattle.sweep.specs.declared.plan.HeadRead.{HeadRead}
-use Rattle.sweep.specs.declared.plan.HeadRead.TheVariants as HeadRead
 use Rattle.sweep.specs.declared.sweep.Sweep.{Sweep}
 use Rattle.sweep.specs.declared.sweep.SweepAnswer.{SweepAnswer}
-use Rattle.sweep.specs.declared.sweep.SweepAnswer.TheVariants as SweepAnswer
 
 -- token, header, fields, scan time (4, then 6, then 5), scale fields; the block starts at message header + 18
 unfoldable pub head_of : Scheme → List ℕ → ℕ → Result Head

@@ -14,7 +14,6 @@ use Rattle.symbology.specs.Rows.{row_of}
 use Rattle.symbology.specs.Words.{data_of, ChangedIn}
 use Rattle.sweep.specs.declared.sweep.Sweep.{Sweep}
 use Rattle.sweep.specs.declared.sweep.SweepAnswer.{SweepAnswer}
-use Rattle.sweep.specs.declared.sweep.SweepAnswer.TheVariants as SweepAnswer
 use Rattle.sweep.specs.Sweep.{Accepted, sweep_of, Buffers}
 use Rattle.sweep.specs.GapSweep.{GapSweep, gap_sweep_of, GapBuffers}
 use Rattle.sweep.specs.Demand3.{row_at}

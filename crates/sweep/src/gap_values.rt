@@ -23,11 +23,14 @@ fn blank(row: &mut [f32])
     }
 }
 
+// The mark of a row that is no gap.
+const WHOLE: u8 = 0;
+
 // The same if the row is marked.
 fn blank_if(mark: u8, row: &mut [f32])
     ensures { row.new ≡ blanked_row mark row.old }
 {
-    if mark != 0 {
+    if mark != WHOLE {
         blank(row);
     }
 }

@@ -2,14 +2,14 @@
 ghost use Rattle.std.specs.Prelude.{◌≡◌};
 ghost use Rattle.sweep.specs.Sweep.{head_of, head_read_of, packets_for, terms_for};
 
-use wire::error::Level3DecodeError;
 use head::header::{Place, TimeRead};
 use head::pdb::{FieldsRead, PdbFields};
 use scale::physical::{Scaling, ScalingRead, Scheme};
 use symbology::figures::{Packets, Room, Terms};
+use wire::error::Level3DecodeError;
 
 // What the file says. The token stands at `token`: product there, site three bytes on. The block starts at `block`.
-#[derive(Drop)]
+#[derive(Clone, Copy)]
 pub struct Head {
     pub token: usize,
     pub block: usize,
@@ -18,7 +18,7 @@ pub struct Head {
     pub scaling: Scaling,
 }
 
-#[derive(Drop)]
+#[derive(Clone, Copy)]
 pub enum HeadRead {
     Value(Head),
     Refused(Level3DecodeError),

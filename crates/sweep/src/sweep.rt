@@ -4,13 +4,13 @@ ghost use Rattle.scale.specs.Physical.{declared_scale};
 ghost use Rattle.sweep.specs.Sweep.{answer_of, sweep_in, sweep_of, sweep_with, buffers, Ran};
 
 use crate::plan::{Head, HeadRead};
-use wire::error::Level3DecodeError;
 use head::pdb::PdbFields;
 use scale::physical::{Declared, DeclaredScaleRead, Filled, Scheme};
 use symbology::figures::{Figures, FiguresRead};
+use wire::error::Level3DecodeError;
 
 // What acceptance gives beside the picture. The token stands at `token` in the file: product there, site three bytes on.
-#[derive(Drop)]
+#[derive(Clone, Copy)]
 pub struct Sweep {
     pub token: usize,
     pub fields: PdbFields,
@@ -19,7 +19,7 @@ pub struct Sweep {
     pub figures: Figures,
 }
 
-#[derive(Drop)]
+#[derive(Clone, Copy)]
 pub enum SweepAnswer {
     Accepted(Sweep),
     Refused(Level3DecodeError),

@@ -19,7 +19,6 @@ use Rattle.symbology.proofs.Levels.{signed_low, signed_high, u32_small}
 use Rattle.symbology.proofs.XdrRadials.{sweep_run}
 use Rattle.symbology.specs.declared.figures.Figures.{Figures}
 use Rattle.symbology.specs.declared.spans.PlanRead.{PlanRead}
-use Rattle.symbology.specs.declared.spans.PlanRead.TheVariants as PlanRead
 use Rattle.symbology.specs.declared.figures.Packet.{Packet}
 use Rattle.symbology.specs.declared.figures.Packet.TheVariants.{Packet16, PacketAf1f, Packet28}
 use Rattle.symbology.specs.declared.figures.Geometry.TheVariants.{RangeScale}

@@ -1,6 +1,6 @@
 -- Every centre of packets 16 and AF1F lies in the circle, by the order of rounding: k / 20 is from 0 to 7,199 / 20, and so is what it is
 -- rounded to. Assumes nothing.
-use Rattle.std.proofs.Common.{◌≡◌, ℕ, ◌+◌, ◌*◌, ◌%◌, ◌^◌, ◌<◌, ◌≤◌, Bool, true, false, ◌&&◌, ◌||◌, T, eqb, ltb, ℤ, pos, sym, refl, ap, ◌∙◌, subst, true≢false, mod-lt, mul_assoc, mul_comm, mul-pos, arith, lit<, eqb→eq, ltb→lt, lt→ltb}
+use Rattle.std.proofs.Common.{◌≡◌, ℕ, ◌+◌, ◌*◌, ◌%◌, ◌<◌, ◌≤◌, Bool, true, false, ◌&&◌, ◌||◌, T, eqb, ltb, ℤ, pos, sym, refl, ap, ◌∙◌, subst, true≢false, mod-lt, mul_assoc, mul_comm, mul-pos, arith, lit<, eqb→eq, ltb→lt, lt→ltb}
 use lib.Ieee.{Float, nan, inf, fin, binary64, up, down, round, div, of_int, le, lt, eq}
 use lib.Ieee.Back.{round_whole}
 use lib.Ieee.Exact.{HasValue}

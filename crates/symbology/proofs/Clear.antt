@@ -7,7 +7,7 @@ use borrow.Author.Tests.{eqb-false}
 use Rattle.wire.specs.Bytes.{u16_at}
 use Rattle.wire.specs.Refusal.{Refusal, kind, nat}
 use Rattle.wire.specs.Result.{Result, accepted, refused, refuse, then}
-use Rattle.wire.specs.Reading.{run, gaps, Given, outcome, walk, give}
+use Rattle.wire.specs.Reading.{run, Given, outcome, walk}
 use Rattle.wire.proofs.Results.{then_by}
 use Rattle.symbology.specs.Answers.{Picture, picture_of, gap_picture_of, joined}
 use Rattle.symbology.specs.Clear.{code_of, ClearScan, empty_picture, clear_answer, unmarked, FirstBinByte, ReadByte, Agrees}

@@ -1,5 +1,5 @@
 -- Cursors in the cells of runs. Assumes nothing.
-use Rattle.std.proofs.Common.{◌≡◌, ℕ, zero, suc, ◌+◌, ◌-◌, ◌/◌, ◌%◌, ◌<◌, ◌≤◌, Bool, true, false, ◌&&◌, eqb, List, [], ◌∷◌, ◌++◌, length, get_or, take, drop, replicate, sym, refl, ap, ◌∙◌, ap₂, not-suc-le-zero, arith, drop_of_length-le, eq-eqb, ne_eqb}
+use Rattle.std.proofs.Common.{◌≡◌, ℕ, zero, suc, ◌+◌, ◌-◌, ◌/◌, ◌%◌, ◌<◌, ◌≤◌, true, false, ◌&&◌, eqb, List, [], ◌∷◌, length, get_or, take, drop, sym, refl, ◌∙◌, not-suc-le-zero, arith, drop_of_length-le, eq-eqb, ne_eqb}
 use Rattle.wire.specs.Text.{same}
 use Rattle.symbology.specs.Rows.{cells}
 use Rattle.symbology.proofs.RunLoops.{left_cons}

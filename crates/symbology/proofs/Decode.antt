@@ -15,10 +15,8 @@ use Rattle.symbology.specs.Walk.{in_mode, any_walk, Plotted, Plots, on_terms, pl
 use Rattle.symbology.specs.declared.figures.Figures.{Figures}
 use Rattle.symbology.specs.declared.figures.Terms.{Terms}
 use Rattle.symbology.specs.declared.figures.FiguresRead.{FiguresRead}
-use Rattle.symbology.specs.declared.figures.FiguresRead.TheVariants as FiguresRead
 use Rattle.wire.proofs.Results.{one_value, through, passed}
 use Rattle.symbology.specs.declared.spans.BodyPlan.{BodyPlan}
-use Rattle.symbology.specs.declared.spans.BodyPlan.TheVariants as BodyPlan
 
 -- ---- 23, of a length that the code holds as y
 

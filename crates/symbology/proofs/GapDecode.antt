@@ -14,7 +14,6 @@ use Rattle.symbology.proofs.Decode.{radials_in, radials_there, asked_on, decode_
 use Rattle.symbology.specs.declared.figures.Figures.{Figures}
 use Rattle.symbology.specs.declared.figures.Terms.{Terms}
 use Rattle.symbology.specs.declared.figures.FiguresRead.{FiguresRead}
-use Rattle.symbology.specs.declared.figures.FiguresRead.TheVariants as FiguresRead
 
 abbrev drawn : Figures → Given (List Float) → GapPicture
 drawn f g = picture_with (record { figures = f; azimuths = g.value }) g.rows

@@ -1,20 +1,19 @@
 -- What turns into a gap is 22 and 34 alone. Assumes nothing.
-use Rattle.std.proofs.Common.{◌≡◌, ℕ, zero, suc, ◌-◌, ◌*◌, Bool, true, false, cond, not, eqb, ltb, ◌⊎◌, List, [], ◌∷◌, sym, refl, ap, ◌∙◌, inl, inr}
-use lib.Ieee.{Float}
+use Rattle.std.proofs.Common.{◌≡◌, ℕ, zero, suc, ◌-◌, Bool, true, false, cond, not, eqb, ltb, ◌⊎◌, List, [], ◌∷◌, sym, ap, inl, inr}
 use Rattle.wire.specs.Bytes.{signed}
-use Rattle.wire.specs.Refusal.{Refusal, Value, kind, nat, whole}
+use Rattle.wire.specs.Refusal.{Refusal, Value, kind, whole}
 use Rattle.wire.specs.Result.{Result, accepted, refused, refuse}
-use Rattle.wire.specs.Reading.{Read, Flat, give, stop, run, gaps, within, ◌>>=◌, ◌>>◌, radial_data, remaining, refuse_if, u32, unread, u16}
+use Rattle.wire.specs.Reading.{Read, Flat, give, stop, run, gaps, ◌>>=◌, ◌>>◌, radial_data}
 use Rattle.wire.proofs.Results.{clash, one_refusal}
-use Rattle.wire.proofs.Runs.{Plain, plain_then, plain_give, plain_check, plain_remaining, plain_u16, plain_u32, plain_unread}
+use Rattle.wire.proofs.Runs.{Plain, plain_check, plain_remaining, plain_u16, plain_u32, plain_unread}
 use Rattle.wire.proofs.Gaps.{RowsRefuse, refuse_plain, refuse_then, refused_alike}
 use Rattle.xdr.specs.Xdr.{pointer, further, elements, counted}
 use Rattle.xdr.proofs.Plains.{plain_list_head}
 use Rattle.symbology.specs.declared.figures.Packet.{Packet}
 use Rattle.symbology.specs.declared.figures.Packet.TheVariants.{Packet16, PacketAf1f, Packet28}
 use Rattle.symbology.specs.Gaps.{Numbered, RowRefusal, TurnsIntoGap}
-use Rattle.symbology.specs.Rows.{row_of, row16, row_af1f, row28, levels, push, reach, cells, words}
-use Rattle.symbology.specs.Symbology.{Sweep, frame, radial, radial_walk, packet_header, radial_packet, xdr_frame, xdr_radial, xdr_walk, xdr_radials, component, payload, generic_packet, packet_of, symbology}
+use Rattle.symbology.specs.Rows.{row_of, row16, row_af1f, row28, levels, push, reach, words}
+use Rattle.symbology.specs.Symbology.{frame, radial, radial_walk, packet_header, radial_packet, xdr_frame, xdr_radial, xdr_walk, xdr_radials, component, payload, generic_packet, packet_of, symbology}
 use Rattle.symbology.proofs.Frames.{plain_beam, plain_xdr_frame}
 use Rattle.symbology.proofs.Payload.{plain_head, plain_pointer, plain_block, plain_only}
 use Rattle.symbology.proofs.Bodies.{plain_header}

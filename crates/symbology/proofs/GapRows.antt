@@ -6,7 +6,7 @@ use Rattle.wire.specs.Reading.{Given, run, marked, gaps}
 use Rattle.wire.proofs.Results.{one_value, through}
 use Rattle.symbology.specs.Rows.{row_of}
 use Rattle.symbology.specs.Symbology.{Sweep, symbology}
-use Rattle.symbology.specs.Damage.{row_in, data_in, radial_at}
+use Rattle.symbology.specs.Damage.{row_in, data_in}
 use Rattle.symbology.specs.Answers.{joined, mark_of, shown, GapPicture, gap_picture_of}
 use Rattle.symbology.specs.declared.figures.Figures.{Figures}
 use Rattle.symbology.proofs.Containment.{data_length}

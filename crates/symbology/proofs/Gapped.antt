@@ -1,7 +1,6 @@
 -- Demand 3's damage and the reading with gaps, for every reading: it accepts, and each row is what the radial's own data make. Assumes nothing.
 use Rattle.std.proofs.Common.{◌≡◌, ℕ, zero, suc, ◌<◌, ◌⊎◌, ◌↔◌, List, [], ◌∷◌, map, length, get_or, sym, refl, ap, ◌∙◌, inl, inr, ⊎_elim, le_of_suc-le-suc, not-suc-le-zero, arith}
 use lib.ListN.{length-map}
-use Rattle.wire.specs.Refusal.{Refusal}
 use Rattle.wire.specs.Result.{Result, accepted, refused}
 use Rattle.wire.specs.Reading.{Read, Given, run, Frame, frames, marked, gaps}
 use Rattle.wire.proofs.Results.{clash, one_value}

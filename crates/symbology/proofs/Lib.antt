@@ -41,3 +41,4 @@ pub mod GapDecode
 pub mod MergeDecode
 pub mod Bodies
 pub mod Clear
+pub mod Remainder

@@ -13,7 +13,7 @@ use Rattle.wire.specs.declared.error.XdrItem.{XdrItem}
 use Rattle.wire.specs.declared.error.XdrItem.TheVariants as Item
 use Rattle.xdr.specs.Xdr as Xdr
 use Rattle.xdr.specs.Xdr.{short, pass, uint, int, padding, string_body, string, array_count, pointer, at_least0, list_head, further, elements, counted, parameter}
-use Rattle.symbology.specs.Places.{Label, string_body_lem, string_padding, product_number, list_count, list_pointer, ArrayCount, array_body, mark, Items, string_items, further_items, element_items, list_items, parameter_items, numbers, product_items, radial_items, radials_items, component_items}
+use Rattle.symbology.specs.Places.{Label, string_body_label, string_padding, product_number, list_count, list_pointer, array_count_label, array_body, mark, Items, string_items, further_items, element_items, list_items, parameter_items, numbers, product_items, radial_items, radials_items, component_items}
 use Rattle.symbology.specs.Rows.{row_of}
 use Rattle.symbology.specs.Symbology.{Sweep, product_block, XdrRadial, xdr_frame, xdr_radial, xdr_walk, xdr_radials, Gates28, component_head, component, only, payload, generic_packet}
 use Rattle.symbology.specs.declared.figures.Packet.TheVariants.{Packet28}
@@ -164,7 +164,7 @@ module _ (b : List ℕ) (m : ℕ) where
       → At t p items (Quiet rest) → ((a : A) (e : ℕ) → At (f a) e (rest e) P) → At (t >>= f) p items P
   quiet_then h k = at_then h λ a e rs later q. rw (q.0, q.1) (k a e)
 
-  at_body : (n p : ℕ) (rest : ℕ → Items) → At (string_body n) p ((string_body_lem, n) ∷ (string_padding, padding n) ∷ rest (p + n + padding n)) (Quiet rest)
+  at_body : (n p : ℕ) (rest : ℕ → Items) → At (string_body n) p ((string_body_label, n) ∷ (string_padding, padding n) ∷ rest (p + n + padding n)) (Quiet rest)
   unfolding string_body ◌>>◌ mark
   at_body n p rest = one_then _ (one_pass _) (one_last (one_pass _) (refl, refl))
 
@@ -254,7 +254,7 @@ module _ (b : List ℕ) (m : ℕ) where
         let e₃₂ : n ≡ at_least0 (i32_at b (p + 4 + 4 + 4)) = eq_of_test _ _ h32 in
         at_give _ (simp append-nil h.0, rw (← e₃₂) h.2, rw (← e₃₂) h.1, e₃₁)))))
       where
-        count : (q : ℕ) → At array_count q ((ArrayCount, 4) ∷ (array_body, u32_at b q * 4) ∷ rest (q + 4 + u32_at b q * 4))
+        count : (q : ℕ) → At array_count q ((array_count_label, 4) ∷ (array_body, u32_at b q * 4) ∷ rest (q + 4 + u32_at b q * 4))
             (λ n e rs later. (rs ≡ []) × (n * 4 ≤ length (take m b) - e) × (later ≡ (array_body, n * 4) ∷ rest (e + n * 4)))
         count q = unfold array_count in one_then _ one_uint (at_test _ _ _ λ h25. at_short _ _ _ λ room. at_give _ (refl, room, refl))
 

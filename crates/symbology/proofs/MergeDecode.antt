@@ -3,7 +3,7 @@ use Rattle.std.proofs.Common.{◌≡◌, ℕ, ◌<◌, ◌≤◌, Bool, true, fa
 use lib.Ieee.{Float}
 use borrow.Author.Tests.{not-false, not-true}
 use Rattle.wire.specs.Refusal.{kind, buffer, refusal_of}
-use Rattle.wire.specs.Result.{Result, accepted, refused, refuse, then, lent}
+use Rattle.wire.specs.Result.{Result, accepted, refused, lent}
 use Rattle.wire.specs.Reading.{Given, run}
 use Rattle.wire.specs.declared.error.Buffer.TheVariants as Buffer
 use Rattle.wire.specs.declared.error.Level3DecodeError.{Level3DecodeError}
@@ -16,7 +16,6 @@ use Rattle.symbology.specs.Pairs.{walk_by, judged, both_rows, merged_parts}
 use Rattle.symbology.specs.declared.figures.Figures.{Figures}
 use Rattle.symbology.specs.declared.figures.Terms.{Terms}
 use Rattle.symbology.specs.declared.figures.FiguresRead.{FiguresRead}
-use Rattle.symbology.specs.declared.figures.FiguresRead.TheVariants as FiguresRead
 use Rattle.symbology.proofs.SameFigures.{figures_are}
 use Rattle.symbology.proofs.Decode.{radials_in, radials_there, refuse_then}
 use Rattle.symbology.proofs.GapDecode.{answered}

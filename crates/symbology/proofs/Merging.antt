@@ -1,9 +1,9 @@
 -- The walk over the radials of two bodies that writes the rows of both. Assumes nothing.
-use Rattle.std.proofs.Common.{◌≡◌, ℕ, zero, suc, ◌+◌, ◌-◌, ◌*◌, ◌<◌, ◌≤◌, Bool, true, false, List, [], ◌∷◌, ◌++◌, map, length, take, drop, set, sym, refl, ap, ◌∙◌, ap₂, suc-mul, add_comm, zero-mul, add-one, arith, length-append, length-drop, length-take-le}
-use lib.ListN.{length-map, length-replicate}
+use Rattle.std.proofs.Common.{◌≡◌, ℕ, zero, suc, ◌+◌, ◌-◌, ◌*◌, ◌<◌, ◌≤◌, true, List, [], ◌∷◌, ◌++◌, map, length, drop, set, sym, refl, ap, ◌∙◌, ap₂, suc-mul, add_comm, zero-mul, add-one, arith, length-append, length-drop, length-take-le}
+use lib.ListN.{length-map}
 use lib.Ieee.{Float}
 use borrow.Rule.Slice.PartMut.{put_mid, mid_of}
-use Rattle.wire.specs.Result.{Result, accepted, refused}
+use Rattle.wire.specs.Result.{Result, accepted}
 use Rattle.wire.specs.Reading.{run, Given}
 use Rattle.wire.proofs.Parts.{Laid, laid_first, laid_end, laid_put, laid_set}
 use Rattle.wire.proofs.Results.{one_value}

@@ -5,9 +5,9 @@ use mathlib.Core.Path.{fun_ext}
 use lib.Seq.{slice}
 use Rattle.wire.specs.Refusal.{Refusal}
 use Rattle.wire.specs.Result.{Result, accepted, refused}
-use Rattle.wire.specs.Reading.{Read, Flat, gaps, give, stop, left, number, ◌>>=◌, ◌>>◌, radial_data, refuse_if, remaining, after_row, run, Given, Ended, passed, halted, onward, walk, Width}
+use Rattle.wire.specs.Reading.{Read, Flat, gaps, give, stop, ◌>>=◌, ◌>>◌, radial_data, refuse_if, after_row, run, Given, passed, halted, onward, walk}
 use Rattle.wire.proofs.Readings.{walk_then, then_passed, then_halted}
-use Rattle.wire.proofs.Runs.{Plain, then_then, and_then, run_then, run_passed, run_halted, row_passed, row_halted, RunParts, run_parts}
+use Rattle.wire.proofs.Runs.{Plain, and_then, run_then, run_passed, run_halted, row_passed, row_halted, RunParts, run_parts}
 use Rattle.wire.proofs.Gaps.{gaps_then, gaps_plain}
 use Rattle.symbology.specs.Walk.{in_mode, kept_of}
 

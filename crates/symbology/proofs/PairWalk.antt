@@ -3,14 +3,14 @@ use Rattle.std.proofs.Common.{◌≡◌, ℕ, zero, suc, ◌+◌, ◌-◌, ◌<�
 use lib.Ieee.{Float}
 use borrow.Author.Tests.{not-true, not-false}
 use Rattle.wire.specs.Refusal.{Refusal, kind, nat}
-use Rattle.wire.specs.Result.{Result, accepted, refused, refuse, then}
+use Rattle.wire.specs.Result.{Result, accepted, refused, refuse}
 use Rattle.wire.specs.Reading.{Given, run, marked}
 use Rattle.wire.specs.Text.{same}
 use Rattle.wire.proofs.Results.{clash, one_value}
 use Rattle.symbology.specs.Answers.{mark_of, shown}
 use Rattle.symbology.specs.Rows.{row_of, codes_of}
 use Rattle.symbology.specs.Places.{Enough}
-use Rattle.symbology.specs.Walk.{in_mode, kept_of, any_radial, any_walk, Accepted, first_row, centre_in, row_in}
+use Rattle.symbology.specs.Walk.{in_mode, kept_of, any_radial, any_walk, Accepted, row_in}
 use Rattle.wire.specs.SameFloat.{same_float}
 use Rattle.symbology.specs.Merge.{same_floats, disagree, agreed, either}
 use Rattle.symbology.specs.Pairs.{Side, turned, note_of, judged, next_in}

@@ -18,7 +18,6 @@ use Rattle.symbology.specs.Walk.{in_mode, any_walk, only_whole, listed, position
 use Rattle.symbology.specs.declared.figures.Figures.{Figures}
 use Rattle.wire.proofs.Results.{one_value}
 use Rattle.symbology.specs.declared.spans.PlanRead.{PlanRead}
-use Rattle.symbology.specs.declared.spans.PlanRead.TheVariants as PlanRead
 
 -- ---- the order of readings
 

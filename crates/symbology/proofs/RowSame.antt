@@ -1,5 +1,5 @@
 -- Two rows compared by their data. Assumes nothing.
-use Rattle.std.proofs.Common.{◌≡◌, ℕ, ◌+◌, ◌-◌, ◌*◌, ◌/◌, ◌<◌, ◌≤◌, true, false, List, length, get_or, sym, refl, ap, ◌∙◌, arith}
+use Rattle.std.proofs.Common.{◌≡◌, ℕ, ◌+◌, ◌-◌, ◌*◌, ◌/◌, ◌<◌, ◌≤◌, true, false, List, length, get_or, sym, ap, ◌∙◌, arith}
 use Rattle.wire.specs.Bytes.{u32_at}
 use Rattle.wire.specs.Text.{same}
 use Rattle.wire.proofs.Alike.{Alike, alike_first, alike_next, alike_not, alike_end}

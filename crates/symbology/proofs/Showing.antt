@@ -1,12 +1,12 @@
 -- The walk that writes rows and gaps: one row, one radial, and the marks of all. Assumes nothing.
-use Rattle.std.proofs.Common.{◌≡◌, ℕ, zero, suc, ◌+◌, ◌-◌, ◌<◌, ◌≤◌, Bool, true, false, List, [], ◌∷◌, ◌++◌, map, length, take, drop, set, replicate, sym, refl, ap, ◌∙◌, add-one, arith}
+use Rattle.std.proofs.Common.{◌≡◌, ℕ, zero, suc, ◌+◌, ◌-◌, ◌<◌, ◌≤◌, Bool, true, false, List, ◌++◌, map, length, take, drop, set, replicate, sym, refl, ap, ◌∙◌, add-one, arith}
 use lib.ListN.{length-map}
 use lib.Ieee.{Float}
 use Rattle.wire.specs.Refusal.{Refusal}
 use Rattle.wire.specs.Result.{Result, accepted, refused, then}
 use Rattle.wire.specs.Reading.{marked, run, Given}
 use Rattle.wire.proofs.Parts.{Laid, laid_first, laid_end, laid_set}
-use Rattle.wire.proofs.Results.{clash, one_value}
+use Rattle.wire.proofs.Results.{clash}
 use Rattle.symbology.specs.Answers.{mark_of, shown}
 use Rattle.symbology.specs.Places.{Enough}
 use Rattle.symbology.specs.Rows.{row_of, codes_of, FullRow}

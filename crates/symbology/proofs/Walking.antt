@@ -18,7 +18,6 @@ use Rattle.symbology.proofs.XdrFrames.{framed}
 use Rattle.symbology.specs.declared.figures.Packet.{Packet}
 use Rattle.symbology.specs.declared.figures.Packet.TheVariants.{Packet16, PacketAf1f, Packet28}
 use Rattle.symbology.specs.declared.spans.Next.{Next}
-use Rattle.symbology.specs.declared.spans.Next.TheVariants as Next
 
 -- ---- a frame that passed
 

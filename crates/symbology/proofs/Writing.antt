@@ -5,7 +5,7 @@ use lib.Ieee.{Float}
 use borrow.Rule.Slice.PartMut.{put_mid, mid_of}
 use Rattle.wire.specs.Refusal.{Refusal}
 use Rattle.wire.specs.Result.{Result, accepted, refused}
-use Rattle.wire.specs.Reading.{marked, give, ◌>>=◌, ◌>>◌, radial_data, more, after_row, run, Given, passed, walk}
+use Rattle.wire.specs.Reading.{marked, ◌>>=◌, ◌>>◌, radial_data, more, after_row, run, Given, passed, walk}
 use Rattle.wire.proofs.Runs.{run_passed, plain_passed}
 use Rattle.wire.proofs.Results.{one_value}
 use Rattle.symbology.proofs.Modes.{mode_give, mode_plain, mode_radial, mode_parts}

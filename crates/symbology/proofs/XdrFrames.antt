@@ -12,7 +12,6 @@ use Rattle.xdr.specs.Xdr.{at_least0}
 use Rattle.symbology.specs.Symbology.{XdrRadial, xdr_frame}
 use Rattle.symbology.specs.Walk.{expected_of, frame_tested, xdr_radial_then, xdr_radial_span, placed}
 use Rattle.xdr.specs.declared.xdr.Step.{Step}
-use Rattle.xdr.specs.declared.xdr.Step.TheVariants as Step
 use Rattle.xdr.specs.Answers.{step_of, from}
 use Rattle.xdr.proofs.Lists.{check_by, check_next}
 

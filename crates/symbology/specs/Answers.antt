@@ -12,17 +12,11 @@ use Rattle.symbology.specs.declared.figures.Packet.{Packet}
 use Rattle.symbology.specs.declared.figures.Packet.TheVariants.{Packet16, PacketAf1f, Packet28}
 use Rattle.symbology.specs.declared.figures.Terms.{Terms}
 use Rattle.symbology.specs.declared.figures.Packets.{Packets}
-use Rattle.symbology.specs.declared.figures.Packets.TheVariants as Packets
 use Rattle.symbology.specs.declared.figures.Room.{Room}
-use Rattle.symbology.specs.declared.figures.Room.TheVariants as Room
 use Rattle.symbology.specs.declared.figures.FiguresRead.{FiguresRead}
-use Rattle.symbology.specs.declared.figures.FiguresRead.TheVariants as FiguresRead
 use Rattle.symbology.specs.declared.trailing.Check.{Check}
-use Rattle.symbology.specs.declared.trailing.Check.TheVariants as Check
 use Rattle.symbology.specs.declared.symbology.CodeRead.{CodeRead}
-use Rattle.symbology.specs.declared.symbology.CodeRead.TheVariants as CodeRead
 use Rattle.symbology.specs.declared.radials.HeaderRead.{HeaderRead}
-use Rattle.symbology.specs.declared.radials.HeaderRead.TheVariants as HeaderRead
 
 abbrev pub check_of : Check → Result (Unit {0})
 check_of Check.Passed = accepted tt

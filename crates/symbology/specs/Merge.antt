@@ -1,7 +1,7 @@
 -- Two receptions, one picture (M-111): what the readings with gaps of two bodies say of each other, and the picture that both make.
 use Rattle.std.specs.Prelude.{ℕ, zero, suc, Bool, true, false, not, ◌&&◌, List, [], ◌∷◌, ◌==◌, Float}
 use Rattle.wire.specs.Refusal.{kind, nat}
-use Rattle.wire.specs.Result.{Result, accepted, refused, refuse, then}
+use Rattle.wire.specs.Result.{Result, accepted, refuse, then}
 use Rattle.wire.specs.Reading.{Given, run, gaps}
 use Rattle.wire.specs.Text.{same}
 use Rattle.wire.specs.SameFloat.{same_float}

@@ -1,5 +1,5 @@
 -- Two walks over the radials side by side, as the code goes. No public contract cites this file.
-use Rattle.std.specs.Prelude.{ℕ, Bool, true, cond, not, ◌&&◌, List, [], ◌∷◌, ◌==◌, Float}
+use Rattle.std.specs.Prelude.{ℕ, Bool, true, cond, not, ◌&&◌, List, [], ◌==◌, Float}
 use Rattle.wire.specs.Refusal.{kind, refusal_of}
 use Rattle.wire.specs.Result.{Result, accepted, refused, refuse, then}
 use Rattle.wire.specs.Reading.{Given, run}
@@ -10,7 +10,6 @@ use Rattle.symbology.specs.Answers.{GapPicture, picture_with}
 use Rattle.symbology.specs.declared.figures.Packet.{Packet}
 use Rattle.symbology.specs.declared.figures.Figures.{Figures}
 use Rattle.symbology.specs.declared.pairs.Turn.{Turn}
-use Rattle.symbology.specs.declared.pairs.Turn.TheVariants as Turn
 
 -- a radial that stands at p, and all radials from p on, read with gaps
 abbrev pub radial_at : Packet → ℕ → ℕ → ℕ → List ℕ → ℕ → Result (Given Float)

@@ -1,5 +1,5 @@
 -- Where the radials of an accepted body stand and which of its bytes are unread, in document 01's own words and figures.
-use Rattle.std.specs.Prelude.{◌≡◌, ℕ, zero, suc, ◌+◌, ◌-◌, ◌*◌, ◌<◌, ◌≤◌, ◌≢◌, ◌⊎◌, ◌↔◌, List, [], ◌∷◌, map, length, slice_index_or}
+use Rattle.std.specs.Prelude.{◌≡◌, ℕ, zero, suc, ◌+◌, ◌*◌, ◌<◌, ◌≤◌, ◌≢◌, ◌⊎◌, ◌↔◌, List, [], ◌∷◌, map, length, slice_index_or}
 use Rattle.wire.specs.Bytes.{u16_at, u32_at, i32_at}
 use Rattle.wire.specs.Reading.{Frame, Unread, Piece, as_number, as_unread, as_data, pieces}
 use Rattle.xdr.specs.Xdr.{padding, at_least0}
@@ -37,18 +37,18 @@ UnreadByte Packet28 radials b i = ⊥
 pub data Label : Type 0 where
   -- 0-1, 2-3, 4-15, 16-17, 18-19, 20-23
   divider block_id block_rest packet_code reserved payload_length : Label
-  string_length string_body_lem string_padding : Label
+  string_length string_body_label string_padding : Label
   list_count list_pointer : Label
   -- a number of the product block that is no string length, list count or component type
   product_number : Label
-  component_type gate_figure radial_count_lem : Label
-  azimuth elevation width bin_count ArrayCount array_body : Label
+  component_type gate_figure radial_count_label : Label
+  azimuth elevation width bin_count array_count_label array_body : Label
 
 -- what document 01 says of an item: unread, data, or read
 unfoldable pub mark : Label → ℕ → Piece
 mark block_rest = as_unread
 mark reserved = as_unread
-mark string_body_lem = as_unread
+mark string_body_label = as_unread
 mark string_padding = as_unread
 mark list_pointer = as_unread
 mark elevation = as_unread
@@ -62,11 +62,11 @@ mark string_length = as_number
 mark list_count = as_number
 mark component_type = as_number
 mark gate_figure = as_number
-mark radial_count_lem = as_number
+mark radial_count_label = as_number
 mark azimuth = as_number
 mark width = as_number
 mark bin_count = as_number
-mark ArrayCount = as_number
+mark array_count_label = as_number
 
 abbrev pub Items : Type 0
 Items = List (Label × ℕ)
@@ -77,7 +77,7 @@ one label n rest p = (label, n) ∷ rest (p + n)
 
 -- a string: length, body, padding to four
 unfoldable pub string_items : List ℕ → (ℕ → Items) → ℕ → Items
-string_items s rest p = one string_length 4 (one string_body_lem (u32_at s p) (one string_padding (padding (u32_at s p)) rest)) p
+string_items s rest p = one string_length 4 (one string_body_label (u32_at s p) (one string_padding (padding (u32_at s p)) rest)) p
 
 -- the items of n further list elements, each after a pointer
 unfoldable pub further_items : ((ℕ → Items) → ℕ → Items) → ℕ → (ℕ → Items) → ℕ → Items
@@ -109,7 +109,7 @@ product_items s rest = string_items s (string_items s (numbers 3 (string_items s
 unfoldable pub radial_items : List ℕ → (ℕ → Items) → ℕ → Items
 radial_items s rest =
     one azimuth 4 (one elevation 4 (one width 4 (one bin_count 4 (string_items s λ p.
-    one ArrayCount 4 (one array_body (u32_at s p * 4) rest) p))))
+    one array_count_label 4 (one array_body (u32_at s p * 4) rest) p))))
 
 unfoldable pub radials_items : List ℕ → ℕ → (ℕ → Items) → ℕ → Items
 radials_items s zero rest = rest
@@ -119,7 +119,7 @@ radials_items s (suc n) rest = radial_items s (radials_items s n rest)
 unfoldable pub component_items : List ℕ → (ℕ → Items) → ℕ → Items
 component_items s rest =
     one component_type 4 (string_items s (one gate_figure 4 (one gate_figure 4 (list_items s (parameter_items s) λ p.
-    one radial_count_lem 4 (radials_items s (at_least0 (i32_at s p)) rest) p))))
+    one radial_count_label 4 (radials_items s (at_least0 (i32_at s p)) rest) p))))
 
 -- the whole body: 24 bytes, then the product block and the components
 unfoldable pub body_items : List ℕ → Items

@@ -16,24 +16,16 @@ use Rattle.symbology.specs.Symbology.{Sweep, XdrRadial, covered, frame, xdr_fram
 use Rattle.symbology.specs.declared.figures.Packet.{Packet}
 use Rattle.symbology.specs.declared.figures.Packet.TheVariants.{Packet16, PacketAf1f, Packet28}
 use Rattle.xdr.specs.declared.xdr.Step.{Step}
-use Rattle.xdr.specs.declared.xdr.Step.TheVariants as Step
 use Rattle.symbology.specs.declared.generic.FrameStep.{FrameStep}
 use Rattle.symbology.specs.declared.generic.GatesRead.{GatesRead}
-use Rattle.symbology.specs.declared.generic.GatesRead.TheVariants as GatesRead
 use Rattle.symbology.specs.declared.spans.PlanRead.{PlanRead}
-use Rattle.symbology.specs.declared.spans.PlanRead.TheVariants as PlanRead
 use Rattle.symbology.specs.declared.spans.BodyPlan.{BodyPlan}
-use Rattle.symbology.specs.declared.spans.BodyPlan.TheVariants as BodyPlan
 use Rattle.symbology.specs.declared.figures.Figures.{Figures}
 use Rattle.symbology.specs.declared.figures.Terms.{Terms}
 use Rattle.symbology.specs.declared.figures.FiguresRead.{FiguresRead}
-use Rattle.symbology.specs.declared.figures.FiguresRead.TheVariants as FiguresRead
 use Rattle.symbology.specs.declared.spans.SpanRead.{SpanRead}
-use Rattle.symbology.specs.declared.spans.SpanRead.TheVariants as SpanRead
 use Rattle.symbology.specs.declared.spans.Ask.{Ask}
-use Rattle.symbology.specs.declared.spans.Ask.TheVariants as Ask
 use Rattle.symbology.specs.declared.spans.Next.{Next}
-use Rattle.symbology.specs.declared.spans.Next.TheVariants as Next
 
 -- ---- with gaps and without
 

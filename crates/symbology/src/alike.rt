@@ -9,7 +9,7 @@ use crate::figures::Packet;
 // ---- AF1F: cell by cell, with a cursor in the runs of each
 
 // The cells from here on: `left` of a colour, then those of the runs from `at` on.
-#[derive(Drop)]
+#[derive(Clone, Copy)]
 pub struct Run {
     pub at: usize,
     pub left: usize,

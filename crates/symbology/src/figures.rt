@@ -1,7 +1,7 @@
 // The figures of an accepted body, and what a caller asks of one before anything is written.
 use wire::error::Level3DecodeError;
 
-#[derive(Drop)]
+#[derive(Clone, Copy)]
 pub enum Packet {
     Packet16,
     PacketAf1f,
@@ -9,7 +9,7 @@ pub enum Packet {
 }
 
 // The range scale of packets 16 and AF1F, or the gate figures of packet 28.
-#[derive(Drop)]
+#[derive(Clone, Copy)]
 pub enum Geometry {
     RangeScale(u16),
     Gates {
@@ -18,7 +18,7 @@ pub enum Geometry {
     },
 }
 
-#[derive(Drop)]
+#[derive(Clone, Copy)]
 pub struct Figures {
     pub packet: Packet,
     pub n_radials: usize,
@@ -26,14 +26,14 @@ pub struct Figures {
     pub geometry: Geometry,
 }
 
-#[derive(Drop)]
+#[derive(Clone, Copy)]
 pub enum FiguresRead {
     Value(Figures),
     Refused(Level3DecodeError),
 }
 
 // The schemes as document 01 groups them by the packets that they work on.
-#[derive(Drop)]
+#[derive(Clone, Copy)]
 pub enum Packets {
     // Legacy.
     Af1fAlone,
@@ -44,13 +44,13 @@ pub enum Packets {
 }
 
 // What a caller asks of a body: the packets that it can use, and room for the physical values.
-#[derive(Drop)]
+#[derive(Clone, Copy)]
 pub struct Terms {
     pub packets: Packets,
     pub physical: Room,
 }
 
-#[derive(Drop)]
+#[derive(Clone, Copy)]
 pub enum Room {
     Unasked,
     Places(usize),

@@ -110,7 +110,7 @@ fn test_frame(
 }
 
 // A radial's centre and its number of bins, and the position of its data.
-#[derive(Drop)]
+#[derive(Clone, Copy)]
 pub struct FrameStep {
     pub centre: f64,
     pub bins: usize,
@@ -198,7 +198,7 @@ pub fn product_block(buf: &[u8], st: Step) -> Step
 }
 
 // A component up to its radials, and the position of the first.
-#[derive(Drop)]
+#[derive(Clone, Copy)]
 pub enum GatesRead {
     Value {
         n_radials: usize,

@@ -1,4 +1,6 @@
 // From a symbology body to rows: packets 16, AF1F and 28.
+#![tactic(auto)]
+
 mod alike;
 mod centre;
 mod components;

@@ -17,7 +17,7 @@ use wire::error::Level3DecodeError;
 
 // ---- the check
 
-#[derive(Drop)]
+#[derive(Clone, Copy)]
 pub enum Turn {
     Next {
         first: usize,
@@ -154,7 +154,7 @@ fn merge_row(packet: Packet, r: usize, a: &[u8], b: &[u8], row: &mut [u16]) -> u
 }
 
 // A radial of both that was written: its centre, the positions after it, and its mark.
-#[derive(Drop)]
+#[derive(Clone, Copy)]
 pub struct Merged {
     pub centre: f64,
     pub first: usize,

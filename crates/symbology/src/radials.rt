@@ -13,14 +13,14 @@ use wire::error::Level3DecodeError;
 // The most cells that a picture may have, of any packet.
 pub const MAX_GATE_COUNT: usize = 4000000;
 
-#[derive(Drop)]
+#[derive(Clone, Copy)]
 pub struct PacketHeader {
     pub n_radials: usize,
     pub n_bins: usize,
     pub range_scale: u16,
 }
 
-#[derive(Drop)]
+#[derive(Clone, Copy)]
 pub enum HeaderRead {
     Value(PacketHeader),
     Refused(Level3DecodeError),
@@ -151,7 +151,8 @@ pub fn read_counts(body: &[u8], packet: Packet, first: usize) -> HeaderRead
     let range_scale = wire::bytes::u16_at(body, 26);
     let n_radials = count_at(body, 28);
     let cells = product(n_radials, n_bins);
-    if n_bins == 0 {
+    let is_empty = n_bins == 0;
+    if is_empty {
         return HeaderRead::Refused(Level3DecodeError::EmptySweep { n_radials, n_bins });
     }
     if MAX_GATE_COUNT < cells {

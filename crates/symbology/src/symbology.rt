@@ -107,7 +107,7 @@ fn is_block_header(divider: u16, block: u16) -> bool
 }
 
 // The packet's code, which ends the block header.
-#[derive(Drop)]
+#[derive(Clone, Copy)]
 pub enum CodeRead {
     Value(u16),
     Refused(Level3DecodeError),
@@ -245,7 +245,8 @@ fn test_room(terms: Terms, azimuths: usize, codes: usize, n_radials: usize, cell
 fn test_packet(packets: Packets, packet: Packet) -> Check
     ensures { check_of result ≡ refuse (not (asked packets packet)) (kind 10 []) (accepted tt) }
 {
-    if !is_asked(packets, packet) {
+    let other = !is_asked(packets, packet);
+    if other {
         return Check::Refused(Level3DecodeError::SchemeMismatch);
     }
     Check::Passed

@@ -5,7 +5,7 @@ ghost use Rattle.symbology.specs.Answers.{check_of};
 
 use wire::error::Level3DecodeError;
 
-#[derive(Drop)]
+#[derive(Clone, Copy)]
 pub enum Check {
     Passed,
     Refused(Level3DecodeError),

@@ -78,7 +78,7 @@ fn ends_at(next: Next, place: usize) -> bool
 }
 
 // What a stretch of radials came to: how many are checked by then, where the last of them starts, and where it ends or why it is refused.
-#[derive(Drop)]
+#[derive(Clone, Copy)]
 pub struct Stretch {
     pub checked: usize,
     pub last: usize,
@@ -171,7 +171,7 @@ pub fn plan_radials(s: &[u8], at: usize, figures: Figures, gaps: bool) -> PlanRe
 }
 
 // A radial that was written: its centre, the position after it, and its mark.
-#[derive(Drop)]
+#[derive(Clone, Copy)]
 pub struct Written {
     pub centre: f64,
     pub next: usize,

@@ -1,11 +1,10 @@
 -- What rain charges are, in the request's words (document 02, M-106).
-use Rattle.std.specs.Prelude.{ℕ, ◌+◌, ◌*◌, ◌-◌, ◌^◌, ◌≤◌, ◌<◌, List, [], ◌≡◌, length, get_or, take}
+use Rattle.std.specs.Prelude.{ℕ, ◌+◌, ◌*◌, ◌^◌, ◌≤◌, ◌<◌, List, [], ◌≡◌, length, get_or, take}
 use Rattle.wire.specs.Products.{Ascending}
 use Rattle.wire.specs.Refusal.{kind}
 use Rattle.wire.specs.Result.{accepted, refused}
 use Rattle.tariff.specs.declared.charge.Charge.{Charge}
 use Rattle.tariff.specs.declared.charge.ChargeRead.{ChargeRead}
-use Rattle.tariff.specs.declared.charge.ChargeRead.TheVariants as ChargeRead
 use Rattle.tariff.specs.Tariff.{last_of, parts, sum, band_products, charge_of, charge_read}
 
 -- A tariff: 1 to 8 bands, two lists of equal length, ends that ascend strictly, the last at least 2 ^ 40, rates of at most 65,535.

@@ -7,7 +7,6 @@ use Rattle.wire.specs.Result.{Result, accepted, refused, refuse}
 use Rattle.wire.specs.Text.{all}
 use Rattle.tariff.specs.declared.charge.Charge.{Charge}
 use Rattle.tariff.specs.declared.charge.ChargeRead.{ChargeRead}
-use Rattle.tariff.specs.declared.charge.ChargeRead.TheVariants as ChargeRead
 
 -- the largest total that is charged, 2 ^ 40
 abbrev pub limit : ℕ

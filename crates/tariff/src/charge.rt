@@ -10,13 +10,13 @@ use wire::error::Level3DecodeError;
 const LIMIT: u64 = 1099511627776;
 
 // In cents; the remainder in thousandths of a cent.
-#[derive(Drop)]
+#[derive(Clone, Copy)]
 pub struct Charge {
     pub charge: u64,
     pub remainder: u64,
 }
 
-#[derive(Drop)]
+#[derive(Clone, Copy)]
 pub enum ChargeRead {
     Value(Charge),
     Refused(Level3DecodeError),

@@ -1,2 +1,4 @@
 // The rain charge of a total by tariff.
+#![tactic(auto)]
+
 pub mod charge;

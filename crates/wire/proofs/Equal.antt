@@ -1,13 +1,13 @@
 -- The test of equality says what the logic's own equality is, and two patterns are equal exactly if the floats are. Assumes nothing.
 use Prim.Native.Nat.{ℕ, ◌*◌}
 use native.Mathlib.Omega.{arith}
-use mathlib.Core.Bool.{Bool, true, false, not, ◌&&◌, beq}
-use mathlib.Core.Path.{◌≡◌, refl, sym, ap, subst, ◌∙◌}
+use mathlib.Core.Bool.{Bool, true, false, ◌&&◌, beq}
+use mathlib.Core.Path.{◌≡◌, refl, sym, ap, ◌∙◌}
 use lib.Dec.{T, eqb}
 use lib.IntN.{ℤ, pos, negsuc}
 use lib.Ieee.{Float, nan, inf, fin, Format, fits, is_nan, ne, eq, to_bits, of_bits, up, down}
 use lib.Ieee.Bits.{of_bits-to_bits}
-use borrow.Author.Tests.{eq-eqb, ne_eqb, eqb-true, eqb-false, not-true, not-false}
+use borrow.Author.Tests.{eq-eqb, eqb-true, eqb-false}
 use Rattle.wire.proofs.Patterns.{is_nan_lem}
 use Rattle.wire.specs.SameFloat.{same_int, same_sign, same_float}
 

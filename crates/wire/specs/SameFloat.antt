@@ -1,6 +1,5 @@
 -- Two floats are equal: "if their bits are or both are NaN". The logic has one NaN, so this is its own equality; -0.0 and 0.0 differ.
-use Rattle.std.specs.Prelude.{ℕ, Bool, true, false, ◌&&◌, ℤ, pos, negsuc, eqb, Float}
-use Rattle.std.specs.Bool.{beq}
+use Rattle.std.specs.Prelude.{Bool, true, false, ◌&&◌, ℤ, pos, negsuc, eqb, Float}
 use Rattle.std.specs.Float.{nan, inf, fin}
 
 abbrev pub same_int : ℤ → ℤ → Bool

@@ -3,19 +3,19 @@
 ghost use Rattle.std.specs.Prelude.{◌≡◌, ◌-◌, ◌<◌, get_or};
 ghost use Rattle.wire.specs.Bytes.{u16_at, u32_at, i16_at, i32_at, signed, read_u16, read_i16, read_i32};
 
-#[derive(Drop)]
+#[derive(Clone, Copy)]
 pub enum U16Read {
     Value(u16),
     Nothing,
 }
 
-#[derive(Drop)]
+#[derive(Clone, Copy)]
 pub enum I16Read {
     Value(i16),
     Nothing,
 }
 
-#[derive(Drop)]
+#[derive(Clone, Copy)]
 pub enum I32Read {
     Value(i32),
     Nothing,

@@ -2,7 +2,7 @@
 // specs/Refusal.antt gives the number and the values of each.
 
 // The XDR item that was cut short.
-#[derive(Drop)]
+#[derive(Clone, Copy)]
 pub enum XdrItem {
     Int,
     Uint,
@@ -14,7 +14,7 @@ pub enum XdrItem {
 }
 
 // The first lent buffer that is too short.
-#[derive(Drop)]
+#[derive(Clone, Copy)]
 pub enum Buffer {
     Azimuths,
     Codes,
@@ -24,7 +24,7 @@ pub enum Buffer {
     Output,
 }
 
-#[derive(Drop)]
+#[derive(Clone, Copy)]
 pub enum Level3DecodeError {
     NoAwipsToken,
     NoMessageHeader,

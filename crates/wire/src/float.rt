@@ -11,10 +11,13 @@ pub fn nan32() -> f32
     0.0f32 / 0.0f32
 }
 
+// Below the sign's bit, the pattern of the infinity: what is above it is a NaN.
+const INFINITY: u32 = 0x7f80_0000;
+
 pub fn f32_from_bits(bits: u32) -> f32
     ensures { result ≡ of_bits binary32 bits }
 {
-    if bits % 0x8000_0000 > 0x7f80_0000 {
+    if bits % 0x8000_0000 > INFINITY {
         nan32()
     } else {
         f32::from_bits(bits)

@@ -2,5 +2,3 @@ pub mod Items
 pub mod Lists
 pub mod Plains
 pub mod Examples
-mod CursorReads
-mod CursorCalls

@@ -6,7 +6,6 @@ use Rattle.wire.specs.Reading.{Flat, Ended, passed, halted, onward, walk}
 use Rattle.wire.specs.Text.{is_zero, trim_end}
 use Rattle.xdr.specs.declared.xdr.Part.{Part}
 use Rattle.xdr.specs.declared.xdr.Step.{Step}
-use Rattle.xdr.specs.declared.xdr.Step.TheVariants as Step
 use Rattle.xdr.specs.declared.xdr.UintRead.{UintRead}
 use Rattle.xdr.specs.declared.xdr.UintRead.TheVariants as Uint
 use Rattle.xdr.specs.declared.xdr.IntRead.{IntRead}

@@ -4,7 +4,7 @@ ghost use Rattle.xdr.specs.Each.{Each};
 use crate::cursor::XdrCursor;
 use crate::xdr::{CountRead, FloatRead, IntRead, PartRead, Step, UintRead};
 
-#[derive(Drop)]
+#[derive(Clone, Copy)]
 pub struct Items {
     pub int: IntRead,
     pub uint: UintRead,

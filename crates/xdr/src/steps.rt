@@ -37,19 +37,19 @@ pub fn skip_string(buf: &[u8], st: Step) -> Step
 }
 
 // A value and the step after it: 0 after a refusal.
-#[derive(Drop)]
+#[derive(Clone, Copy)]
 pub struct FloatStep {
     pub value: f32,
     pub then: Step,
 }
 
-#[derive(Drop)]
+#[derive(Clone, Copy)]
 pub struct IntStep {
     pub value: i32,
     pub then: Step,
 }
 
-#[derive(Drop)]
+#[derive(Clone, Copy)]
 pub struct CountStep {
     pub value: usize,
     pub then: Step,

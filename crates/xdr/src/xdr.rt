@@ -14,44 +14,44 @@ const MAX_XDR_ARRAY_LEN: u32 = 100000;
 const MAX_XDR_LIST_LEN: i32 = 10000;
 
 // A part of the payload: a string's bytes, or an array's first byte and the number of its integers.
-#[derive(Drop)]
+#[derive(Clone, Copy)]
 pub struct Part {
     pub start: usize,
     pub len: usize,
 }
 
 // A position, or the refusal that came before it.
-#[derive(Drop)]
+#[derive(Clone, Copy)]
 pub enum Step {
     At(usize),
     Refused { error: Level3DecodeError, at: usize },
 }
 
-#[derive(Drop)]
+#[derive(Clone, Copy)]
 pub enum UintRead {
     Value { value: u32, next: usize },
     Refused { error: Level3DecodeError, at: usize },
 }
 
-#[derive(Drop)]
+#[derive(Clone, Copy)]
 pub enum IntRead {
     Value { value: i32, next: usize },
     Refused { error: Level3DecodeError, at: usize },
 }
 
-#[derive(Drop)]
+#[derive(Clone, Copy)]
 pub enum FloatRead {
     Value { value: f32, next: usize },
     Refused { error: Level3DecodeError, at: usize },
 }
 
-#[derive(Drop)]
+#[derive(Clone, Copy)]
 pub enum CountRead {
     Value { value: usize, next: usize },
     Refused { error: Level3DecodeError, at: usize },
 }
 
-#[derive(Drop)]
+#[derive(Clone, Copy)]
 pub enum PartRead {
     Value { value: Part, next: usize },
     Refused { error: Level3DecodeError, at: usize },

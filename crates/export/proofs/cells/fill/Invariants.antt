@@ -1,0 +1,10 @@
+use Prim.Native.Nat.{◌-◌}
+use lib.ListN.{length, replicate}
+use Rattle.symbology.proofs.Stores.{Stored}
+use Rattle.export.proofs.cells.fill.Given as goal
+
+abbrev pub invariant-loop-i : goal.invariant-loop-i
+invariant-loop-i l = Stored (length l.initial.part) (replicate (length l.initial.part) l.v) l.part l.i
+
+abbrev pub decreases-loop-i : goal.decreases-loop-i
+decreases-loop-i l = length l.initial.part - l.i

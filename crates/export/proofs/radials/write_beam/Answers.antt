@@ -1,0 +1,5 @@
+use mathlib.Core.Path.{◌∙◌, refl}
+use Rattle.export.proofs.radials.write_beam.Goals as goal
+
+pub returns : goal.returns
+returns c = c.copy.ensures ∙ rw (c.high.ensures, c.low.ensures, c.high-2.ensures, c.low-2.ensures, c.high-3.ensures, c.low-3.ensures) refl

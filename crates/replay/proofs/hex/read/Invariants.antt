@@ -1,0 +1,10 @@
+use Rattle.std.proofs.Common.{◌-◌, length}
+use Rattle.capi.proofs.Copied.{Copied}
+use Rattle.replay.specs.Hex.{bytes_in}
+use Rattle.replay.proofs.hex.read.Given as goal
+
+abbrev pub invariant-loop-i : goal.invariant-loop-i
+invariant-loop-i l = Copied (bytes_in (length l.initial.buf) l.word) l.initial.buf l.buf l.i
+
+abbrev pub decreases-loop-i : goal.decreases-loop-i
+decreases-loop-i l = length l.initial.buf - l.i

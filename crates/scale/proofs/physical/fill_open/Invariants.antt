@@ -1,0 +1,11 @@
+use Rattle.scale.proofs.Mapped.{Mapped}
+use Rattle.scale.specs.Physical.{open_value}
+use lib.ListN.{length}
+use Prim.Native.Nat.{◌-◌}
+use Rattle.scale.proofs.physical.fill_open.Given as goal
+
+abbrev pub invariant-loop-i : goal.invariant-loop-i
+invariant-loop-i l = Mapped (open_value l.min l.step l.floor) l.codes l.initial.physical l.physical l.i
+
+abbrev pub decreases-loop-i : goal.decreases-loop-i
+decreases-loop-i l = length l.codes - l.i

@@ -1,0 +1,8 @@
+use Rattle.sweep.proofs.Blanking.{row_marked, row_unmarked}
+use Rattle.sweep.proofs.gap_values.blank_if.Goals as goal
+
+pub returns-then-mark-ne-WHOLE : goal.returns-then-mark-ne-WHOLE
+returns-then-mark-ne-WHOLE c = row_marked _ _ c.if-mark-ne-WHOLE.true c.blank.ensures
+
+pub returns-else-mark-ne-WHOLE : goal.returns-else-mark-ne-WHOLE
+returns-else-mark-ne-WHOLE c = row_unmarked _ _ c.if-mark-ne-WHOLE.false

@@ -1,0 +1,9 @@
+use Rattle.symbology.specs.Centre.{centre}
+use Rattle.wire.specs.Float.{f64}
+use lib.Ieee.{of_bits}
+use Rattle.std.proofs.Common.{refl}
+use Rattle.symbology.proofs.centre.azimuth_centre_deg.Goals as goal
+
+pub returns : goal.returns
+unfolding of_bits f64 centre
+returns c = refl

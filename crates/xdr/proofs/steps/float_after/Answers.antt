@@ -1,0 +1,13 @@
+use lib.Ieee.{of_bits}
+use Rattle.wire.specs.Float.{f32}
+use Rattle.xdr.proofs.Lists.{stepped_at, stepped_halted}
+use Rattle.xdr.specs.Answers.{step_of}
+use mathlib.Core.Path.{ap}
+use Rattle.xdr.proofs.steps.float_after.Goals as goal
+
+pub returns-in-At : goal.returns-in-At
+returns-in-At c = stepped_at _ _ _ (ap step_of c.in-At.is) c.unpack_float.ensures c.float_step.ensures
+
+pub returns-in-Refused : goal.returns-in-Refused
+unfolding f32 of_bits
+returns-in-Refused c = stepped_halted _ _ _ (ap step_of c.in-Refused.is)

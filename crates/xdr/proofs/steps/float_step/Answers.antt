@@ -1,0 +1,11 @@
+use lib.Ieee.{of_bits}
+use Rattle.wire.specs.Float.{f32}
+use mathlib.Core.Path.{refl}
+use Rattle.xdr.proofs.steps.float_step.Goals as goal
+
+pub returns-in-Value : goal.returns-in-Value
+returns-in-Value c = rw c.in-Value.is (refl, refl)
+
+pub returns-in-Refused : goal.returns-in-Refused
+unfolding f32 of_bits
+returns-in-Refused c = rw c.in-Refused.is (refl, refl)
