@@ -2,3 +2,4 @@ pub mod Lengths
 pub mod Rule
 pub mod Search
 pub mod Days
+pub mod Table

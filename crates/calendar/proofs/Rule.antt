@@ -15,17 +15,17 @@ unfoldable pub follows : ℕ → ℕ → List ℕ → Bool
 follows k s [] = true
 follows k s (x ∷ xs) = eqb x s && follows (suc k) (s + month_length (year_of k) (month_of k)) xs
 
-from : (xs : List ℕ) (k : ℕ) → follows k (start k) xs ≡ true → (i : ℕ) → i < length xs → get_or xs i 0 ≡ start (k + i)
+from : (xs : List ℕ) (k : ℕ) → follows k (start k) xs ≡ true → (i d : ℕ) → i < length xs → get_or xs i d ≡ start (k + i)
 unfolding follows start
-from [] k t i h = absurd (not-suc-le-zero h)
-from (x ∷ xs) k t zero h = subst (λ (m : ℕ). x ≡ start m) (sym (add-zero k)) (eqb-true x (start k) (both (eqb x (start k)) _ t).0)
-from (x ∷ xs) k t (suc i) h =
-    subst (λ (m : ℕ). get_or xs i 0 ≡ start m) (suc-add k i ∙ sym (add-suc k i))
-    (from xs (suc k) (both (eqb x (start k)) _ t).1 i (le_of_suc-le-suc h))
+from [] k t i d h = absurd (not-suc-le-zero h)
+from (x ∷ xs) k t zero d h = subst (λ (m : ℕ). x ≡ start m) (sym (add-zero k)) (eqb-true x (start k) (both (eqb x (start k)) _ t).0)
+from (x ∷ xs) k t (suc i) d h =
+    subst (λ (m : ℕ). get_or xs i d ≡ start m) (suc-add k i ∙ sym (add-suc k i))
+    (from xs (suc k) (both (eqb x (start k)) _ t).1 i d (le_of_suc-le-suc h))
 
-entry : (xs : List ℕ) → follows 0 1 xs ≡ true → (k : ℕ) → k < length xs → get_or xs k 0 ≡ start k
+pub entry : (xs : List ℕ) → follows 0 1 xs ≡ true → (k d : ℕ) → k < length xs → get_or xs k d ≡ start k
 unfolding start
-entry xs t k h = subst (λ (m : ℕ). get_or xs k 0 ≡ start m) (zero-add k) (from xs 0 t k h)
+entry xs t k d h = subst (λ (m : ℕ). get_or xs k d ≡ start m) (zero-add k) (from xs 0 t k d h)
 
 chosen : {b : Bool} {x y : ℕ} → (b ≡ true → x ≡ y) → x ≡ cond b y x
 chosen {b = true} h = h refl
@@ -34,4 +34,4 @@ chosen {b = false} h = refl
 -- The same as a rewriting: an entry of a list that passes the test is the start of its month.
 pub by_rule : (xs : List ℕ) (k : ℕ) → get_or xs k 0 ≡ cond (follows 0 1 xs && ltb k (length xs)) (start k) (get_or xs k 0)
 by_rule xs k =
-    chosen (λ t. let h = both (follows 0 1 xs) (ltb k (length xs)) t in entry xs h.0 k (ltb-true k (length xs) h.1))
+    chosen (λ t. let h = both (follows 0 1 xs) (ltb k (length xs)) t in entry xs h.0 k 0 (ltb-true k (length xs) h.1))

@@ -4,15 +4,18 @@ use native.Mathlib.Nat.{add-zero, add-suc}
 use native.Mathlib.Numerals.{add-one}
 use native.Mathlib.Omega.{arith}
 use mathlib.Core.Bool.{Bool, true, false, cond}
-use mathlib.Core.List.{[], ◌∷◌}
-use mathlib.Core.Path.{◌≡◌, refl}
-use lib.Dec.{leb}
-use lib.IntN.{pos}
-use borrow.Author.Tests.{eq-eqb, ne_eqb, leb-true, leb-false}
+use mathlib.Core.List.{List, [], ◌∷◌}
+use lib.ListN.{length}
+use Rattle.std.specs.List.Sorted.{IsPartitionedBy, IsPartitionPoint}
+use mathlib.Core.Path.{◌≡◌, refl, sym, subst}
+use lib.Dec.{leb, ltb}
+use borrow.Author.Tests.{eq-eqb, le-leb, ltb-true, ltb-false, ne_eqb, leb-true, leb-false}
 use Rattle.wire.specs.Refusal.{kind, nat, whole}
 use Rattle.wire.specs.Result.{accepted, refused}
+use lib.IntN.{pos}
 use Rattle.calendar.specs.Calendar.{leap, month_length, year_of, month_of, start, InMonth, latest, last_month, date_of}
 use Rattle.calendar.proofs.Lengths.{a_length}
+use Rattle.calendar.proofs.Rule.{follows, entry}
 
 -- the rule, for whoever works a start out
 pub start_first : 1 ≡ start 0
@@ -67,23 +70,30 @@ latest_has (suc n) {day} h l = chosen n (latest n day) day (leb (start (suc n)) 
 pub in_latest : {day : ℕ} → 1 ≤ day → day ≤ 65535 → InMonth (latest last_month day) day
 in_latest h l = latest_has last_month h (omega (arith, after_last))
 
--- ---- the loop of the search
+-- ---- the search in the table
 
--- the day lies between the starts of two months
-pub record Between (day low high : ℕ) : Type 0 where
-  pub ordered : low < high
-  pub inside : high ≤ 2154
-  pub begun : start low ≤ day
-  pub before : day < start high
+-- the entries that start at or before a day stand before the others
+pub parted : (xs : List ℕ) (day : ℕ) → follows 0 1 xs ≡ true → IsPartitionedBy (λ x. leb x day) xs
+parted xs day t i j d h l e =
+    let a = entry xs t i d (omega arith) in
+    let b = entry xs t j d l in
+    le-leb _ _ (omega (arith, leb-true _ _ e, later h))
 
-pub between_all : {day : ℕ} → 1 ≤ day → day < 65536 → Between day 0 2154
-unfolding start
-between_all h l = record { ordered = omega arith; inside = omega arith; begun = h; before = rw after_last (omega arith) }
-
-pub found : {day low high : ℕ} → Between day low high → high - low ≤ 1 → InMonth low day
-found {day} {low} {high} b h =
-    let e : high ≡ suc low = omega (arith, b.ordered) in
-    record { begun = b.begun; before = rw e at b.before }
+-- the last of them is the month that has the day
+pub found : (xs : List ℕ) (day n : ℕ) → follows 0 1 xs ≡ true → length xs ≡ 2154 → 1 ≤ day → day < 65536 → n ≤ length xs
+    → IsPartitionPoint (λ x. leb x day ≡ true) (λ x. leb x day ≡ false) xs n → (1 ≤ n) × InMonth (n - 1) day
+found xs day zero t long h l within p =
+    let q = p.1 0 0 (omega arith) (omega arith) in
+    absurd (omega (arith, leb-false _ _ q, entry xs t 0 0 (omega arith), start_first))
+found xs day (suc n) t long h l within p =
+    let e : suc n - 1 ≡ n = omega arith in
+    let q = p.0 n 0 (omega arith) (omega arith) in
+    let begun : start n ≤ day = omega (arith, leb-true _ _ q, entry xs t n 0 within) in
+    (omega arith, rw e (record { begun = begun; before = by (ltb (suc n) (length xs)) refl }))
+  where
+    by : (b : Bool) → ltb (suc n) (length xs) ≡ b → day < start (suc n)
+    by true m = omega (arith, leb-false _ _ (p.1 (suc n) 0 (omega arith) (ltb-true _ _ m)), entry xs t (suc n) 0 (ltb-true _ _ m))
+    by false m = let z : n ≡ 2153 = omega (arith, ltb-false _ _ m) in subst (λ (m : ℕ). day < start (suc m)) (sym z) (omega (arith, after_last))
 
 -- ---- the answers
 

@@ -1,9 +1,8 @@
 -- The calendar day of a day number (document 02, M-102). Day 1 is 1 January 1970. Months are numbered from January 1970, which is month 0.
 use Rattle.std.specs.Prelude.{ℕ, zero, suc, ◌+◌, ◌-◌, ◌/◌, ◌%◌, ◌≤◌, ◌<◌, Bool, cond, ◌||◌, [], ◌∷◌, eqb, leb, pos}
-use Rattle.wire.specs.Refusal.{kind, nat, whole, refusal_of}
-use Rattle.wire.specs.Result.{Result, accepted, refused, refuse}
+use Rattle.wire.specs.Refusal.{kind, nat, whole}
+use Rattle.wire.specs.Result.{Result, accepted, refuse}
 use Rattle.calendar.specs.declared.date.Date.{Date}
-use Rattle.calendar.specs.declared.date.DateRead.{DateRead}
 
 -- a year that 4 divides is a leap year; one that 100 divides, only where 400 does
 unfoldable pub leap : ℕ → Bool
@@ -47,8 +46,3 @@ date_in k day = record { year = year_of k; month = month_of k; day = day - start
 -- the date of a day number from 0 to 65,535; 4, with days 0 and seconds 0, for day 0
 unfoldable pub date_of : ℕ → Result Date
 date_of days = refuse (eqb days 0) (kind 4 (nat 0 ∷ whole (pos 0) ∷ [])) (accepted (date_in (latest last_month days) days))
-
--- what the answer says
-abbrev pub date_read : DateRead → Result Date
-date_read (DateRead.Value d) = accepted d
-date_read (DateRead.Refused e) = refused (refusal_of e)

@@ -2,6 +2,7 @@
 ghost use Rattle.std.specs.Prelude.{◌≡◌, ◌≤◌};
 ghost use Rattle.calendar.specs.Calendar.{leap, month_length};
 
+#[tactic(auto, unfolding(crate::specs::Calendar::leap))]
 fn is_leap(year: u16) -> bool
     ensures { result ≡ leap year }
 {
@@ -13,6 +14,7 @@ fn is_leap(year: u16) -> bool
 }
 
 // Months are 1 to 12; any other number has 31.
+#[tactic(auto, unfolding(crate::specs::Calendar::month_length))]
 pub fn month_length(year: u16, month: u8) -> u16
     ensures value { result ≡ month_length year month }
     ensures upper_bound { result ≤ 31 }

@@ -1,6 +1,6 @@
 // The first day number of each month from January 1970 to June 2149, one a line, as the program `months` prints them.
-ghost use Rattle.std.specs.Prelude.{◌≡◌, ◌<◌};
-ghost use Rattle.calendar.specs.Calendar.{start};
+ghost use Rattle.std.specs.Prelude.{◌≡◌, ◌≤◌, ◌<◌};
+ghost use Rattle.calendar.specs.Calendar.{InMonth, start};
 
 const STARTS: [u16; 2154] = [
     1, 32, 60, 91, 121, 152, 182, 213, 244, 274, 305, 335, 366, 397, 425, 456, 486, 517, 547, 578,
@@ -172,4 +172,12 @@ pub(crate) fn month_start(k: usize) -> u16
     ensures { result ≡ start k }
 {
     STARTS[k]
+}
+
+// The month that a day lies in: the last one that starts at or before it.
+pub(crate) fn month_of_day(days: u16) -> usize
+    requires { 1 ≤ days }
+    ensures { (result < 2154) × InMonth result days }
+{
+    STARTS.partition_point(|first| *first <= days) - 1
 }

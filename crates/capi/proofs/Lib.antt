@@ -1,5 +1,2 @@
-pub mod Copied
-pub mod Words
-pub mod Reports
 pub mod Answers
 pub mod Coherence

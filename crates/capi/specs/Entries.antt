@@ -1,5 +1,6 @@
 -- What the entries that take a kind, an item, a scheme or an exact length have to say.
 use Rattle.std.specs.Prelude.{◌≡◌, ℕ, ◌-◌, cond, ◌&&◌, List, [], ◌∷◌, length, ◌==◌, nat_lt, Float}
+use Rattle.std.specs.Prelude as Std
 use Rattle.wire.specs.Reading.{walk}
 use Rattle.wire.specs.Result.{Result}
 use Rattle.wire.specs.Products.{codes}
@@ -16,12 +17,11 @@ use Rattle.sweep.specs.MergeSweep.{merge_into}
 use Rattle.fields.specs.Fields.{Totalled, totals_in, TotalsBuffers, totals_into}
 use Rattle.export.specs.Export.{length_in}
 use Rattle.xdr.specs.Xdr as Xdr
-use Rattle.xdr.specs.Answers.{done, string_part, array_part}
+use Rattle.xdr.specs.Cursor.{done, string_part, array_part}
 use Rattle.xdr.specs.Each.{uint_at, float_at, string_at, array_at, head_at, list_at, end_at}
 use Rattle.capi.specs.declared.report.Report.{Report}
-use Rattle.capi.specs.declared.sweeps.Asked.{Asked}
 use Rattle.capi.specs.Report.{report_of, ended_report, Said, said, failed, saying, choice, room_first, Leaves, lent_by}
-use Rattle.capi.specs.Places.{no_report, number_report, signed_report, float_report, pair_report, part_report, u16_report, i16_report, i32_report, figures_report, sweep_report, totals_report}
+use Rattle.capi.specs.Places.{no_report, number_report, signed_report, float_report, pair_report, part_report, number_found, signed_found, figures_report, sweep_report, totals_report}
 
 -- a field, by its kind: i16, u16, i32, a pair of f32
 abbrev pub field_said : List ℕ → ℕ → ℕ → ℕ → Said Report
@@ -50,7 +50,7 @@ items_said item s =
 
 -- a number at an offset, by its kind: u16, i16, i32
 abbrev pub read_said : ℕ → List ℕ → ℕ → Said Report
-read_said kind s at = choice kind (u16_report (read_u16 s at) ∷ i16_report (read_i16 s at) ∷ i32_report (read_i32 s at) ∷ [])
+read_said kind s at = choice kind (number_found (read_u16 s at) ∷ signed_found (read_i16 s at) ∷ signed_found (read_i32 s at) ∷ [])
 
 -- the thresholds' place, for a buffer of n bytes, which has to be 32
 unfoldable pub threshold_said : List ℕ → ℕ → ℕ → Said (Result ℕ)
@@ -123,6 +123,6 @@ abbrev pub physical_said : ℕ → Float → List ℕ → ℕ → List ℕ → �
 physical_said n x file block codes np = saying (λ scheme. fill_of scheme file block codes np) (scheme_said n x)
 
 -- what the code says of a scheme's number
-abbrev pub asked_of : Asked → Said Scheme
-asked_of (Asked.Known s) = said s
-asked_of (Asked.Failed n) = failed n
+abbrev pub asked_of : Std.Result Scheme ℕ → Said Scheme
+asked_of (Std.Ok s) = said s
+asked_of (Std.Err n) = failed n

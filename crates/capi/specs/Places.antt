@@ -1,13 +1,7 @@
 -- What stands where in the report of an accepted value.
-use Rattle.std.specs.Prelude.{◌≡◌, ℕ, List, [], ◌∷◌, ℤ, negsuc, slice_index_or, Float}
+use Rattle.std.specs.Prelude.{◌≡◌, ℕ, List, [], ◌∷◌, ℤ, negsuc, slice_index_or, Option, Some, None, Float}
 use Rattle.std.specs.Float.{nan}
 use Rattle.wire.specs.Float.{f64}
-use Rattle.wire.specs.declared.bytes.U16Read.{U16Read}
-use Rattle.wire.specs.declared.bytes.U16Read.TheVariants as U16
-use Rattle.wire.specs.declared.bytes.I16Read.{I16Read}
-use Rattle.wire.specs.declared.bytes.I16Read.TheVariants as I16
-use Rattle.wire.specs.declared.bytes.I32Read.{I32Read}
-use Rattle.wire.specs.declared.bytes.I32Read.TheVariants as I32
 use Rattle.calendar.specs.declared.date.Date.{Date}
 use Rattle.tariff.specs.declared.charge.Charge.{Charge}
 use Rattle.head.specs.Pdb.{thousandths, tenths, metres}
@@ -15,8 +9,7 @@ use Rattle.head.specs.declared.pdb.F32Pair.{F32Pair}
 use Rattle.head.specs.declared.pdb.PdbFields.{PdbFields}
 use Rattle.scale.specs.declared.scaling.LinearScale.{LinearScale}
 use Rattle.scale.specs.declared.scaling.PrecipScale.{PrecipScale}
-use Rattle.scale.specs.declared.scaling.Ceiling.{Ceiling}
-use Rattle.scale.specs.declared.physical.Declared.{Declared}
+use Rattle.scale.specs.declared.scaling.DeclaredLinearScale.{DeclaredLinearScale}
 use Rattle.sweep.specs.declared.sweep.Sweep.{Sweep}
 use Rattle.fields.specs.declared.fields.SweepTotals.{SweepTotals}
 use Rattle.symbology.specs.declared.figures.Figures.{Figures}
@@ -48,17 +41,13 @@ abbrev pub pair_report : F32Pair → Report
 pair_report p = report 0 [] (p.scale ∷ p.offset ∷ [])
 
 -- whether a number is there, and the number
-abbrev pub u16_report : U16Read → Report
-u16_report (U16.Value n) = report 0 (1 ∷ n ∷ []) []
-u16_report U16.Nothing = report 0 (0 ∷ []) []
+abbrev pub number_found : Option ℕ → Report
+number_found (Some n) = report 0 (1 ∷ n ∷ []) []
+number_found None = report 0 (0 ∷ []) []
 
-abbrev pub i16_report : I16Read → Report
-i16_report (I16.Value z) = report 0 (1 ∷ word z ∷ []) []
-i16_report I16.Nothing = report 0 (0 ∷ []) []
-
-abbrev pub i32_report : I32Read → Report
-i32_report (I32.Value z) = report 0 (1 ∷ word z ∷ []) []
-i32_report I32.Nothing = report 0 (0 ∷ []) []
+abbrev pub signed_found : Option ℤ → Report
+signed_found (Some z) = report 0 (1 ∷ word z ∷ []) []
+signed_found None = report 0 (0 ∷ []) []
 
 abbrev pub part_report : Part → Report
 part_report p = report 0 (p.start ∷ p.len ∷ []) []
@@ -160,9 +149,9 @@ linear_places s =
     record { declared = 0; levels = s.n_levels; floor = 0; ceiling = 0; minimum = s.value_min; step = s.value_increment }
 
 -- -1 where there is no ceiling
-abbrev pub ceiling_number : Ceiling → ℕ
-ceiling_number (Ceiling.At n) = n
-ceiling_number Ceiling.Absent = word (negsuc 0)
+abbrev pub ceiling_number : Option ℕ → ℕ
+ceiling_number (Some n) = n
+ceiling_number None = word (negsuc 0)
 
 abbrev pub precip_places : PrecipScale → ScalePlaces
 precip_places p =
@@ -176,8 +165,8 @@ precip_places p =
     }
 
 -- the scale that a product declares, where it declares one
-abbrev pub declared_places : Declared → ScalePlaces
-declared_places (Declared.Scale d) =
+abbrev pub declared_places : Option DeclaredLinearScale → ScalePlaces
+declared_places (Some d) =
     record {
       declared = 1;
       levels = d.n_levels;
@@ -186,7 +175,7 @@ declared_places (Declared.Scale d) =
       minimum = d.value_min;
       step = d.value_increment;
     }
-declared_places Declared.Absent = no_scale
+declared_places None = no_scale
 
 abbrev pub fields_report : PdbFields → Report
 fields_report f = placed (head_places 0 f 0) no_picture no_scale

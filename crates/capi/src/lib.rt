@@ -3,7 +3,6 @@
 
 pub mod body;
 pub mod charges;
-mod copies;
 pub mod dates;
 pub mod exports;
 pub mod header;
@@ -15,3 +14,4 @@ pub mod reads;
 mod report;
 pub mod scaling;
 pub mod sweeps;
+mod values;

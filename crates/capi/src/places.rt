@@ -4,11 +4,10 @@ ghost use Rattle.capi.specs.Places.{placed, no_head, no_picture, no_scale, head_
 ghost use Rattle.capi.specs.Places.{picture_places, linear_places, ceiling_number, precip_places, declared_places, fields_report, figures_report};
 ghost use Rattle.capi.specs.Places.{linear_report, precip_report, sweep_report, totals_report};
 
-use crate::report::{Report, with_place, word_of, word_of_half};
+use crate::report::{Report, Reported, with_place, word_of, word_of_half};
 use fields::fields::SweepTotals;
 use head::pdb::PdbFields;
-use scale::physical::Declared;
-use scale::scaling::{Ceiling, LinearScale, PrecipScale};
+use scale::scaling::{DeclaredLinearScale, LinearScale, PrecipScale};
 use sweep::sweep::Sweep;
 use symbology::figures::{Figures, Geometry, Packet};
 
@@ -177,10 +176,7 @@ fn range_scale(geometry: Geometry) -> u64
 {
     match geometry {
         Geometry::RangeScale(n) => n as u64,
-        Geometry::Gates {
-            gate_width_m: _,
-            first_gate_m: _,
-        } => 0,
+        Geometry::Gates { .. } => 0,
     }
 }
 
@@ -189,10 +185,7 @@ fn gate_width(geometry: Geometry) -> f64
 {
     match geometry {
         Geometry::RangeScale(_) => 0.0,
-        Geometry::Gates {
-            gate_width_m,
-            first_gate_m: _,
-        } => std::num::f32_to_f64_with_nan(gate_width_m),
+        Geometry::Gates { gate_width_m, .. } => std::num::f32_to_f64_with_nan(gate_width_m),
     }
 }
 
@@ -201,25 +194,20 @@ fn first_gate(geometry: Geometry) -> f64
 {
     match geometry {
         Geometry::RangeScale(_) => 0.0,
-        Geometry::Gates {
-            gate_width_m: _,
-            first_gate_m,
-        } => std::num::f32_to_f64_with_nan(first_gate_m),
+        Geometry::Gates { first_gate_m, .. } => std::num::f32_to_f64_with_nan(first_gate_m),
     }
 }
 
 pub(crate) fn picture_places(f: Figures) -> PicturePlaces
     ensures { result ≡ picture_places f }
 {
-    let packet = f.packet;
-    let geometry = f.geometry;
     PicturePlaces {
-        packet: packet_number(packet),
+        packet: packet_number(f.packet),
         radials: f.n_radials as u64,
         bins: f.n_bins as u64,
-        range: range_scale(geometry),
-        width: gate_width(geometry),
-        first: first_gate(geometry),
+        range: range_scale(f.geometry),
+        width: gate_width(f.geometry),
+        first: first_gate(f.geometry),
     }
 }
 
@@ -236,34 +224,33 @@ fn linear_places(s: LinearScale) -> ScalePlaces
     }
 }
 
-fn ceiling_number(ceiling: Ceiling) -> u64
+fn ceiling_number(ceiling: Option<u16>) -> u64
     ensures { result ≡ ceiling_number ceiling }
 {
     match ceiling {
-        Ceiling::At(n) => n as u64,
-        Ceiling::Absent => 18446744073709551615,
+        Some(n) => n as u64,
+        None => 18446744073709551615,
     }
 }
 
 fn precip_places(p: PrecipScale) -> ScalePlaces
     ensures { result ≡ precip_places p }
 {
-    let ceiling = p.ceiling;
     ScalePlaces {
         declared: 0,
         levels: 0,
         floor: p.floor as u64,
-        ceiling: ceiling_number(ceiling),
+        ceiling: ceiling_number(p.ceiling),
         minimum: std::num::f32_to_f64_with_nan(p.value_min),
         step: std::num::f32_to_f64_with_nan(p.value_increment),
     }
 }
 
-fn declared_places(declared: Declared) -> ScalePlaces
+fn declared_places(declared: Option<DeclaredLinearScale>) -> ScalePlaces
     ensures { result ≡ declared_places declared }
 {
     match declared {
-        Declared::Scale(d) => ScalePlaces {
+        Some(d) => ScalePlaces {
             declared: 1,
             levels: d.n_levels as u64,
             floor: d.data_floor_code as u64,
@@ -271,50 +258,58 @@ fn declared_places(declared: Declared) -> ScalePlaces
             minimum: std::num::f32_to_f64_with_nan(d.value_min),
             step: std::num::f32_to_f64_with_nan(d.value_increment),
         },
-        Declared::Absent => no_scale(),
+        None => no_scale(),
     }
 }
 
-pub(crate) fn of_fields(f: PdbFields) -> Report
-    ensures { result ≡ fields_report f }
-{
-    placed_report(head_places(0, f, 0), no_picture(), no_scale())
+impl Reported for PdbFields {
+    ghost places = { fields_report };
+
+    fn report(self) -> Report {
+        placed_report(head_places(0, self, 0), no_picture(), no_scale())
+    }
 }
 
-pub(crate) fn of_figures(f: Figures) -> Report
-    ensures { result ≡ figures_report f }
-{
-    placed_report(no_head(), picture_places(f), no_scale())
+impl Reported for Figures {
+    ghost places = { figures_report };
+
+    fn report(self) -> Report {
+        placed_report(no_head(), picture_places(self), no_scale())
+    }
 }
 
-pub(crate) fn of_linear(s: LinearScale) -> Report
-    ensures { result ≡ linear_report s }
-{
-    placed_report(no_head(), no_picture(), linear_places(s))
+impl Reported for LinearScale {
+    ghost places = { linear_report };
+
+    fn report(self) -> Report {
+        placed_report(no_head(), no_picture(), linear_places(self))
+    }
 }
 
-pub(crate) fn of_precip(p: PrecipScale) -> Report
-    ensures { result ≡ precip_report p }
-{
-    placed_report(no_head(), no_picture(), precip_places(p))
+impl Reported for PrecipScale {
+    ghost places = { precip_report };
+
+    fn report(self) -> Report {
+        placed_report(no_head(), no_picture(), precip_places(self))
+    }
 }
 
-pub(crate) fn of_sweep(s: Sweep) -> Report
-    ensures { result ≡ sweep_report s }
-{
-    let fields = s.fields;
-    let figures = s.figures;
-    let declared = s.declared;
-    placed_report(
-        head_places(s.token, fields, s.time),
-        picture_places(figures),
-        declared_places(declared),
-    )
+impl Reported for Sweep {
+    ghost places = { sweep_report };
+
+    fn report(self) -> Report {
+        placed_report(
+            head_places(self.token, self.fields, self.time),
+            picture_places(self.figures),
+            declared_places(self.declared),
+        )
+    }
 }
 
-pub(crate) fn of_totals(t: SweepTotals) -> Report
-    ensures { result ≡ totals_report t }
-{
-    let s = t.sweep;
-    with_place(of_sweep(s), 14, t.fields)
+impl Reported for SweepTotals {
+    ghost places = { totals_report };
+
+    fn report(self) -> Report {
+        with_place(self.sweep.report(), 14, self.fields)
+    }
 }

@@ -7,13 +7,10 @@ ghost use Rattle.capi.specs.Entries.{codes_said};
 pub fn l3_known(code: i16) -> u32
     ensures { result ≡ (if known code then 1 else 0) }
 {
-    if wire::products::is_known_message_code(code) {
-        1
-    } else {
-        0
-    }
+    u32::from(wire::products::is_known_message_code(code))
 }
 
+#[tactic(auto, unfolding(crate::specs::Entries::codes_said))]
 pub fn l3_codes(table: &mut [u16]) -> u32
     ensures value { result ≡ plain_number (codes_said (length table.old)) }
     ensures table_after { table.new ≡ plain_after (codes_said (length table.old)) table.old }
@@ -22,6 +19,6 @@ pub fn l3_codes(table: &mut [u16]) -> u32
         return 101;
     }
     let codes = wire::products::known_message_codes();
-    crate::copies::copy_u16(&codes, table);
+    table[..26].copy_from_slice(&codes);
     0
 }

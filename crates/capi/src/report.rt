@@ -1,9 +1,12 @@
 // What an entry reports: a number, 24 whole numbers and eight floats.
 ghost use Rattle.std.specs.Prelude.{◌≡◌, ◌<◌, [], ◌∷◌, if◌then◌else◌};
 ghost use Rattle.wire.specs.Refusal.{refusal_of};
-ghost use Rattle.capi.specs.Report.{whole_places, word, item_number, buffer_number, report, refusal_report, with_place, with_position, said, short, Leaves};
+ghost use Rattle.wire.specs.Result.{answer};
+ghost use Rattle.xdr.specs.Cursor.{ended};
+ghost use Rattle.capi.specs.Report.{whole_places, word, item_number, buffer_number, report, refusal_report, report_of, ended_report, with_place, with_position, said, short, Leaves};
 
 use wire::error::{Buffer, Level3DecodeError, XdrItem};
+use xdr::each::Ended;
 
 // The places of a report: for whole numbers and for floats.
 pub(crate) const INTS: usize = 24;
@@ -16,6 +19,16 @@ pub struct Report {
     pub number: u32,
     pub ints: [u64; INTS],
     pub floats: [f64; FLOATS],
+}
+
+// An accepted value that has a report.
+pub trait Reported {
+    ghost use Rattle.capi.specs.declared.report.Report.{Report};
+
+    ghost places: { Self → Report };
+
+    fn report(self) -> Report
+        ensures { result ≡ places self };
 }
 
 // A whole number as a 64-bit word, two's complement.
@@ -287,20 +300,14 @@ pub(crate) fn with_position(report: Report, at: usize) -> Report
 pub(crate) fn is_short(ints: usize, floats: usize) -> bool
     ensures { result ≡ short ints floats }
 {
-    if ints < INTS {
-        return true;
-    }
-    floats < FLOATS
+    ints < INTS || floats < FLOATS
 }
 
 // What an entry returns for an argument that it does not take.
 pub(crate) fn bad_argument(ints: usize, floats: usize) -> u32
     ensures { result ≡ (if short ints floats then 100 else 101) }
 {
-    if is_short(ints, floats) {
-        return 100;
-    }
-    101
+    if is_short(ints, floats) { 100 } else { 101 }
 }
 
 // Writes a report, and returns its number.
@@ -310,9 +317,37 @@ pub(crate) fn write_report(report: Report, ints: &mut [u64], floats: &mut [f64])
     if is_short(ints.len(), floats.len()) {
         return 100;
     }
-    let whole = report.ints;
-    let real = report.floats;
-    crate::copies::copy_u64(&whole, ints);
-    crate::copies::copy_f64(&real, floats);
+    ints[..INTS].copy_from_slice(&report.ints);
+    floats[..FLOATS].copy_from_slice(&report.floats);
     report.number
+}
+
+// The report of an accepted value, or of the refusal.
+fn report_of<T: Reported>(given: Result<T, Level3DecodeError>) -> Report
+    ensures { result ≡ report_of (answer given) T.places }
+{
+    match given {
+        Ok(value) => value.report(),
+        Err(error) => refusal_report(error),
+    }
+}
+
+// Writes the report of what a lower function answers.
+pub(crate) fn write_answer<T: Reported>(
+    given: Result<T, Level3DecodeError>,
+    ints: &mut [u64],
+    floats: &mut [f64],
+) -> u32
+    ensures { Leaves (said (report_of (answer given) T.places))
+        result ints.old ints.new floats.old floats.new }
+{
+    write_report(report_of(given), ints, floats)
+}
+
+// The same of an item that a cursor read, with the position where it ended.
+pub(crate) fn write_ended<T: Reported>(item: Ended<T>, ints: &mut [u64], floats: &mut [f64]) -> u32
+    ensures { Leaves (said (ended_report (ended item.answer item.at) T.places))
+        result ints.old ints.new floats.old floats.new }
+{
+    write_report(with_position(report_of(item.answer), item.at), ints, floats)
 }

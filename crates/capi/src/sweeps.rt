@@ -1,73 +1,44 @@
 // The sweep reading: without gaps, with them, of two receptions, with the totals of a field plan.
 ghost use Rattle.std.specs.Prelude.{◌≡◌, if◌then◌else◌};
-ghost use Rattle.sweep.specs.Sweep.{answer_of, buffers};
+ghost use Rattle.sweep.specs.Sweep.{buffers};
 ghost use Rattle.sweep.specs.GapSweep.{gap_buffers};
-ghost use Rattle.fields.specs.Fields.{totals_answer_of, totals_buffers};
-ghost use Rattle.capi.specs.Report.{report_of, failed, short};
-ghost use Rattle.capi.specs.Places.{sweep_report, totals_report};
+ghost use Rattle.fields.specs.Fields.{totals_buffers};
+ghost use Rattle.capi.specs.Report.{failed, short};
 ghost use Rattle.capi.specs.Entries.{scheme_said, sweep_said, SweepLeaves, gaps_said, merge_said, GapsLeave, totals_said, TotalsLeave, asked_of};
 
-use crate::report::{Report, is_short, refusal_report, write_report};
-use fields::fields::TotalsAnswer;
+use crate::report::{is_short, write_answer};
 use scale::physical::Scheme;
-use sweep::sweep::SweepAnswer;
 
 // The scheme that is asked for, or the number with which an entry fails.
-#[derive(Clone, Copy)]
-pub enum Asked {
-    Known(Scheme),
-    Failed(u32),
-}
-
-fn scheme_of(number: u32, parameter: f32) -> Asked
+#[tactic(auto, unfolding(crate::specs::Report::choice))]
+fn scheme_of(number: u32, parameter: f32) -> Result<Scheme, u32>
     ensures { asked_of result ≡ scheme_said number parameter }
 {
-    if number == 0 {
-        return Asked::Known(Scheme::Halfword);
-    }
-    if number == 1 {
-        return Asked::Known(Scheme::Float);
-    }
-    if number == 2 {
-        return Asked::Known(Scheme::Precipitation { factor: parameter });
-    }
-    if number == 3 {
-        return Asked::Known(Scheme::Legacy {
+    match number {
+        0 => Ok(Scheme::Halfword),
+        1 => Ok(Scheme::Float),
+        2 => Ok(Scheme::Precipitation { factor: parameter }),
+        3 => Ok(Scheme::Legacy {
             post_scale: parameter,
-        });
+        }),
+        4 => Ok(Scheme::Class),
+        _ => Err(101),
     }
-    if number == 4 {
-        return Asked::Known(Scheme::Class);
-    }
-    Asked::Failed(101)
 }
 
 // The same for a report of these lengths: 100 comes first.
-pub(crate) fn asked_scheme(number: u32, parameter: f32, ints: usize, floats: usize) -> Asked
+pub(crate) fn asked_scheme(
+    number: u32,
+    parameter: f32,
+    ints: usize,
+    floats: usize,
+) -> Result<Scheme, u32>
     ensures { asked_of result ≡ (if short ints floats then failed 100 else scheme_said number parameter) }
 {
     if is_short(ints, floats) {
-        return Asked::Failed(100);
+        return Err(100);
     }
     scheme_of(number, parameter)
-}
-
-fn sweep_report(r: SweepAnswer) -> Report
-    ensures { result ≡ report_of (answer_of r) sweep_report }
-{
-    match r {
-        SweepAnswer::Accepted(s) => crate::places::of_sweep(s),
-        SweepAnswer::Refused(e) => refusal_report(e),
-    }
-}
-
-fn totals_report(r: TotalsAnswer) -> Report
-    ensures { result ≡ report_of (totals_answer_of r) totals_report }
-{
-    match r {
-        TotalsAnswer::Accepted(t) => crate::places::of_totals(t),
-        TotalsAnswer::Refused(e) => refusal_report(e),
-    }
 }
 
 pub fn l3_sweep(
@@ -88,11 +59,11 @@ pub fn l3_sweep(
         ints.old ints.new floats.old floats.new }
 {
     let asked = match asked_scheme(scheme, parameter, ints.len(), floats.len()) {
-        Asked::Known(s) => s,
-        Asked::Failed(number) => return number,
+        Ok(s) => s,
+        Err(number) => return number,
     };
     let answer = sweep::sweep::read_sweep(file, clock, asked, body, azimuths, codes, physical);
-    write_report(sweep_report(answer), ints, floats)
+    write_answer(answer, ints, floats)
 }
 
 pub fn l3_gaps(
@@ -114,13 +85,13 @@ pub fn l3_gaps(
         ints.old ints.new floats.old floats.new }
 {
     let asked = match asked_scheme(scheme, parameter, ints.len(), floats.len()) {
-        Asked::Known(s) => s,
-        Asked::Failed(number) => return number,
+        Ok(s) => s,
+        Err(number) => return number,
     };
     let answer = sweep::with_gaps::read_sweep_with_gaps(
         file, clock, asked, body, azimuths, codes, physical, marks,
     );
-    write_report(sweep_report(answer), ints, floats)
+    write_answer(answer, ints, floats)
 }
 
 pub fn l3_merge(
@@ -143,13 +114,13 @@ pub fn l3_merge(
         ints.old ints.new floats.old floats.new }
 {
     let asked = match asked_scheme(scheme, parameter, ints.len(), floats.len()) {
-        Asked::Known(s) => s,
-        Asked::Failed(number) => return number,
+        Ok(s) => s,
+        Err(number) => return number,
     };
     let answer = sweep::merge::merge_receptions(
         file, clock, asked, first, second, azimuths, codes, physical, marks,
     );
-    write_report(sweep_report(answer), ints, floats)
+    write_answer(answer, ints, floats)
 }
 
 pub fn l3_totals(
@@ -172,11 +143,11 @@ pub fn l3_totals(
         ints.old ints.new floats.old floats.new }
 {
     let asked = match asked_scheme(scheme, parameter, ints.len(), floats.len()) {
-        Asked::Known(s) => s,
-        Asked::Failed(number) => return number,
+        Ok(s) => s,
+        Err(number) => return number,
     };
     let answer = fields::fields::read_sweep_with_totals(
         file, clock, asked, body, plan, azimuths, codes, physical, totals,
     );
-    write_report(totals_report(answer), ints, floats)
+    write_answer(answer, ints, floats)
 }

@@ -12,17 +12,16 @@ use denote.Triple.Clauses.{AtExit}
 use mir.Syntax.{w8}
 use borrow.Table.Referent.{f_int}
 use borrow.Rule.Slice.Know.{Fit}
-use Rattle.wire.specs.Result.{Result, accepted, refused, then, lent}
+use Rattle.wire.specs.Result.{Result, accepted, answer, refused, then, lent}
 use Rattle.wire.proofs.Results.{clash, one_value}
 use Rattle.scale.specs.declared.physical.Scheme.{Scheme}
-use Rattle.sweep.specs.Sweep.{Accepted, Buffers, read_into, Ran, answer_of, sweep_in}
+use Rattle.sweep.specs.Sweep.{Accepted, Buffers, read_into, Ran, sweep_in, SweepAnswer}
 use Rattle.sweep.specs.Demand3.{SameLengths}
 use Rattle.sweep.specs.declared.sweep.Sweep.{Sweep}
-use Rattle.sweep.specs.declared.sweep.SweepAnswer.{SweepAnswer}
 use Rattle.sweep.proofs.CodeRuns as Reading
-use Rattle.export.specs.Export.{export_of, length_in, length_of}
+use Rattle.export.specs.Export.{export_of, length_in}
 use Rattle.export.specs.RoundTrip.{IsLegacy, figures16, accepted16, RoundTrip, Layout}
-use Rattle.export.specs.declared.export.ExportAnswer.TheVariants as ExportAnswer
+use Rattle.std.specs.Prelude.{Ok}
 use Rattle.export.proofs.RoundTrip.{round_trip}
 use Rattle.export.proofs.InWords.{layout}
 use Rattle.export.specs.contracts.export.export_packet16.{signature}
@@ -75,8 +74,8 @@ exported b out₀ out n e k = go (export_of b (length out₀)) refl e k
         }
     go (refused x) h i j = clash n x (sym i)
 
-pub call_exports : (c : Call) → Allowed c → (n : ℕ) → c.answer ≡ ExportAnswer.Written n → Exported (body c) (old c) (new c) n
-call_exports c allowed n is = exported (body c) (old c) (new c) n (ap length_of (sym is) ∙ allowed.0) allowed.1
+pub call_exports : (c : Call) → Allowed c → (n : ℕ) → c.answer ≡ Ok n → Exported (body c) (old c) (new c) n
+call_exports c allowed n is = exported (body c) (old c) (new c) n (ap answer (sym is) ∙ allowed.0) allowed.1
 
 -- ---- an export, and the sweep reading of the original and of what was written
 
@@ -87,7 +86,7 @@ sweep16 s = record { token = s.token; fields = s.fields; time = s.time; declared
 -- The sweep reading answered a of the original and a' of the written body: the same but for the packet, or the same refusal; and what it
 -- left in both sets of buffers is one and the same reading's.
 pub record Agree (old old' new new' : Buffers) (a a' : SweepAnswer) : Type 0 where
-  pub answered : answer_of a' ≡ then (answer_of a) λ s. accepted (sweep16 s)
+  pub answered : answer a' ≡ then (answer a) λ s. accepted (sweep16 s)
   pub reading : Result Accepted
   pub azimuths : (new.azimuths ≡ lent reading (λ p. p.azimuths) old.azimuths) × (new'.azimuths ≡ lent reading (λ p. p.azimuths) old'.azimuths)
   pub codes : (new.codes ≡ lent reading (λ p. p.codes) old.codes) × (new'.codes ≡ lent reading (λ p. p.codes) old'.codes)
@@ -119,7 +118,7 @@ agree scheme file clock b o old old' new new' a a' t other lengths r r' =
 alike : {s s' : Scheme} {f f' : List ℕ} {k k' : ℕ} {b b' : List ℕ} (o n : Buffers) (a : SweepAnswer) → s' ≡ s → f' ≡ f → k' ≡ k → b' ≡ b → Ran s' f' k' b' o n a → Ran s f k b o n a
 alike o n a es ef ek eb r = rw (← es, ← ef, ← ek, ← eb) r
 
-pub calls_agree : (x : Call) → Allowed x → (n : ℕ) → x.answer ≡ ExportAnswer.Written n → (c d : Reading.Call) → Reading.Allowed c → Reading.Allowed d
+pub calls_agree : (x : Call) → Allowed x → (n : ℕ) → x.answer ≡ Ok n → (c d : Reading.Call) → Reading.Allowed c → Reading.Allowed d
     → Reading.body c ≡ body x → Reading.body d ≡ take n (new x) → Reading.file d ≡ Reading.file c → Reading.clock d ≡ Reading.clock c → Reading.scheme d ≡ Reading.scheme c
     → ¬ (IsLegacy (Reading.scheme c)) → SameLengths (Reading.old c) (Reading.old d)
     → Agree (Reading.old c) (Reading.old d) (Reading.new c) (Reading.new d) c.answer d.answer

@@ -4,6 +4,8 @@ use native.Mathlib.Numerals.{add-one}
 use native.Mathlib.Omega.{arith}
 use mathlib.Core.List.{List, [], ◌∷◌, ◌++◌, append_assoc, append-nil}
 use mathlib.Core.Path.{◌≡◌, refl, sym, ap, ◌∙◌}
+use mathlib.Core.Bool.{cond}
+use lib.Dec.{eqb}
 use lib.ListN.{length, take, drop, replicate, length-append, length-drop, drop_of_length-le}
 use lib.Seq.{slice, take_at, drop_at, length-take-le}
 use borrow.Author.Tests.{eq-eqb}
@@ -23,6 +25,10 @@ use Rattle.export.specs.Export.{two, count_for, beam_bytes, beams_bytes, export_
 use Rattle.export.specs.Steps.{beam_at, data_at}
 use Rattle.export.proofs.Turns.{Turn, turn, none, fine}
 use Rattle.export.proofs.Written.{beam_long, beams_long}
+
+-- a row that its runs fill is written
+pub row_filled : {n l : ℕ} {xs row' : List ℕ} (row : List ℕ) → n ≡ l → row' ≡ cond (eqb n l) xs row → row' ≡ xs
+row_filled {n} {l} row e h = h ∙ simp (eq-eqb n l e)
 
 -- ---- one radial: its six bytes, its row, its zero byte
 

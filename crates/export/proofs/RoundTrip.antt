@@ -6,6 +6,7 @@ use mathlib.Core.Bool.{Bool, true, false, not}
 use mathlib.Core.Path.{◌≡◌, refl, sym, ap, ◌∙◌}
 use lib.ListN.{length}
 use lib.Dec.{ltb}
+use Rattle.std.specs.Prelude.{Option}
 use Rattle.wire.specs.Bytes.{u32_at}
 use Rattle.wire.specs.Refusal.{kind}
 use Rattle.wire.specs.Result.{Result, accepted, refused, refuse, then}
@@ -13,7 +14,7 @@ use Rattle.wire.specs.Reading.{run, Given}
 use Rattle.wire.proofs.Results.{one_value, through, passed}
 use Rattle.wire.proofs.Runs.{run_parts, plain_passed}
 use Rattle.scale.specs.Physical.{declared_scale, physical_of}
-use Rattle.scale.specs.declared.physical.Declared.{Declared}
+use Rattle.scale.specs.declared.scaling.DeclaredLinearScale.{DeclaredLinearScale}
 use Rattle.scale.specs.declared.physical.Scheme.{Scheme}
 use Rattle.symbology.specs.Answers.{Picture, picture_of, joined}
 use Rattle.symbology.specs.Symbology.{Beam, Header, Sweep, symbology}
@@ -102,7 +103,7 @@ allowed_16 (Scheme.Legacy post) n = absurd (n tt)
 allowed_16 Scheme.Class n = refl
 
 -- what acceptance gives
-abbrev swept : Scheme → List ℕ → Head → Picture → Declared → Accepted
+abbrev swept : Scheme → List ℕ → Head → Picture → Option DeclaredLinearScale → Accepted
 swept scheme file h p declared =
     record {
       sweep = record { token = h.token; fields = h.fields; time = h.time; declared = declared; figures = p.figures };
@@ -117,7 +118,7 @@ module _ (scheme : Scheme) (file : List ℕ) (na nc np : ℕ) (h : Head) (p : Pi
   unfolding finish room_for
   finish_16 = rw (allowed_16 scheme other ∙ ap (allowed scheme) (sym is)) (by (not (allowed scheme p.figures.packet)) (declared_scale h.scaling) (room_for na nc np p.figures))
     where
-      by : (t : Bool) (d : Result Declared) (room : Result (Unit {0}))
+      by : (t : Bool) (d : Result (Option DeclaredLinearScale)) (room : Result (Unit {0}))
           → refuse t (kind 10 []) (then d λ declared. then room λ _. accepted (accepted16 (swept scheme file h p declared)))
           ≡ then (refuse t (kind 10 []) (then d λ declared. then room λ _. accepted (swept scheme file h p declared))) (λ a. accepted (accepted16 a))
       by true d room = refl

@@ -2,14 +2,13 @@
 -- which order it is refused; from what it gives the written body is put together as a list.
 use Rattle.std.specs.Prelude.{ℕ, zero, suc, ◌+◌, ◌-◌, ◌/◌, ◌%◌, List, [], ◌∷◌, ◌++◌, not, length, replicate, ltb, eqb}
 use Rattle.wire.specs.Bytes.{u32_at, signed}
-use Rattle.wire.specs.Refusal.{kind, nat, whole, buffer, refusal_of}
-use Rattle.wire.specs.Result.{Result, accepted, refused, refuse, then}
+use Rattle.wire.specs.Refusal.{kind, nat, whole, buffer}
+use Rattle.wire.specs.Result.{Result, accepted, refuse, then}
 use Rattle.wire.specs.Reading.{Flat, give, ◌>>=◌, ◌>>◌, remaining, u16, radial_data, refuse_if, run, Given}
 use Rattle.wire.specs.declared.error.Buffer.TheVariants as Buffer
 use Rattle.symbology.specs.Rows.{row_of}
 use Rattle.symbology.specs.Symbology.{Beam, Header, covered, counts, frame, with_code}
 use Rattle.symbology.specs.declared.figures.Packet.TheVariants.{PacketAf1f}
-use Rattle.export.specs.declared.export.ExportAnswer.{ExportAnswer}
 
 -- ---- what is read
 
@@ -103,7 +102,3 @@ export_of body room =
 
 abbrev pub length_in : Result (List ℕ) → Result ℕ
 length_in r = then r λ o. accepted (length o)
-
-abbrev pub length_of : ExportAnswer → Result ℕ
-length_of (ExportAnswer.Written n) = accepted n
-length_of (ExportAnswer.Refused e) = refused (refusal_of e)

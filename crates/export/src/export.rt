@@ -1,20 +1,12 @@
 // The packet 16 body of an AF1F body, written into a lent buffer.
 ghost use Rattle.std.specs.Prelude.{◌≡◌, ◌+◌, ◌*◌, ◌≤◌, ◌<◌, length};
-ghost use Rattle.wire.specs.Result.{lent};
-ghost use Rattle.export.specs.Export.{count_for, head_bytes, export_of, length_in, length_of};
+ghost use Rattle.wire.specs.Result.{answer, lent};
+ghost use Rattle.export.specs.Export.{count_for, head_bytes, export_of, length_in};
 ghost use Rattle.export.specs.Steps.{head_in};
 
 use crate::radials::{high, low};
-use symbology::figures::FiguresRead;
-use symbology::radials::{HeaderRead, PacketHeader};
+use symbology::radials::PacketHeader;
 use wire::error::{Buffer, Level3DecodeError};
-
-// The length of the written body.
-#[derive(Clone, Copy)]
-pub enum ExportAnswer {
-    Written(usize),
-    Refused(Level3DecodeError),
-}
 
 // How long the written body is.
 fn size_of(n_radials: usize, n_bins: usize) -> usize
@@ -74,30 +66,25 @@ fn write_header(h: PacketHeader, kept: u32, size: usize, part: &mut [u8])
         high(radials),
         low(radials),
     ];
-    crate::cells::copy(&thirty, part);
+    part.copy_from_slice(&thirty);
 }
 
-// The body of packet 16 for an AF1F body that symbology accepts, in the front of the buffer. A refusal writes nothing.
-pub fn export_packet16(body: &[u8], out: &mut [u8]) -> ExportAnswer
-    ensures result_value { length_of result ≡ length_in (export_of body.now (length out.old)) }
+// The body of packet 16 for an AF1F body that symbology accepts, in the front of the buffer; the answer is its length. A refusal writes
+// nothing.
+pub fn export_packet16(body: &[u8], out: &mut [u8]) -> Result<usize, Level3DecodeError>
+    ensures result_value { answer result ≡ length_in (export_of body.now (length out.old)) }
     ensures out_after { out.new ≡ lent (export_of body.now (length out.old)) (λ o. o) out.old }
 {
-    match crate::header::read_header(body) {
-        HeaderRead::Refused(error) => ExportAnswer::Refused(error),
-        HeaderRead::Value(h) => match symbology::symbology::check(body) {
-            FiguresRead::Refused(error) => ExportAnswer::Refused(error),
-            FiguresRead::Value(_) => {
-                let size = size_of(h.n_radials, h.n_bins);
-                if out.len() < size {
-                    return ExportAnswer::Refused(Level3DecodeError::BufferTooShort {
-                        buffer: Buffer::Output,
-                    });
-                }
-                let kept = wire::bytes::u32_at(body, 22);
-                write_header(h, kept, size, &mut out[..30]);
-                crate::radials::write_radials(body, h.n_radials, h.n_bins, &mut out[30..]);
-                ExportAnswer::Written(size)
-            }
-        },
+    let h = crate::header::read_header(body)?;
+    symbology::symbology::check(body)?;
+    let size = size_of(h.n_radials, h.n_bins);
+    if out.len() < size {
+        return Err(Level3DecodeError::BufferTooShort {
+            buffer: Buffer::Output,
+        });
     }
+    let kept = wire::bytes::u32_at(body, 22);
+    write_header(h, kept, size, &mut out[..30]);
+    crate::radials::write_radials(body, h.n_radials, h.n_bins, &mut out[30..]);
+    Ok(size)
 }

@@ -1,7 +1,6 @@
 // From an AF1F body to a packet 16 body.
 #![tactic(auto)]
 
-mod cells;
 pub mod export;
 mod header;
 mod radials;

@@ -9,6 +9,7 @@ ghost use Rattle.symbology.specs.declared.figures.Packet.TheVariants.{PacketAf1f
 ghost use Rattle.export.specs.Export.{two, count_for, beam_bytes, beams_bytes, export_walk};
 ghost use Rattle.export.specs.Steps.{beam_at, data_at};
 
+use symbology::cells::write_row_bytes;
 use symbology::radials::count_at;
 
 pub fn high(n: u16) -> u8
@@ -36,7 +37,7 @@ fn write_beam(count: u16, start: u16, width: u16, part: &mut [u8])
         high(width),
         low(width),
     ];
-    crate::cells::copy(&six, part);
+    part.copy_from_slice(&six);
 }
 
 // One radial, and the place of the next in the original.
@@ -52,8 +53,8 @@ fn write_radial(body: &[u8], at: usize, n_bins: usize, part: &mut [u8]) -> usize
     let width = wire::bytes::u16_at(body, at + 4);
     let end = 6 + n_bins;
     write_beam((n_bins + n_bins % 2) as u16, start, width, &mut part[..6]);
-    crate::cells::write_runs(&body[from..to], &mut part[6..end]);
-    crate::cells::fill(&mut part[end..], 0);
+    write_row_bytes(&body[from..to], &mut part[6..end]);
+    part[end..].fill(0);
     to
 }
 
@@ -67,11 +68,9 @@ pub fn write_radials(body: &[u8], n_radials: usize, n_bins: usize, out: &mut [u8
     let size = 6 + (n_bins + n_bins % 2);
     let mut at: usize = 30;
     let mut place: usize = 0;
-    let mut radial: usize = 0;
-    while radial < n_radials {
+    for _ in 0..n_radials {
         let end = place + size;
         at = write_radial(body, at, n_bins, &mut out[place..end]);
         place = end;
-        radial += 1;
     }
 }

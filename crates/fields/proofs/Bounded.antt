@@ -10,10 +10,10 @@ use lib.Dec.{eqb, leb, ltb}
 use lib.ListN.{length, get_or, take, drop, drop_of_length-le}
 use lib.Seq.{drop-cons}
 use borrow.Author.Tests.{ltb-true, ltb-false}
+use Rattle.std.specs.Prelude.{Option}
 use Rattle.wire.specs.Bytes.{u16_at}
 use Rattle.wire.proofs.Numbers.{half_small}
 use Rattle.scale.specs.Scaling.{valid}
-use Rattle.scale.specs.declared.scaling.Ceiling.{Ceiling}
 use Rattle.symbology.specs.Words.{Bytes}
 use Rattle.fields.specs.declared.plan.Record.{Record}
 use Rattle.fields.specs.declared.plan.Record.TheVariants.{Field, Strip, Malformed}
@@ -64,7 +64,7 @@ module _ (plan : List ℕ) (small : Bytes plan) where
   all_fit = entries_fit (length plan - 0) 0
 
 module _ (p : Grid) (small : (i : ℕ) → get_or p.codes i 0 < 65536) where
-  counts_small : (floor : ℕ) (c : Ceiling) (code : ℕ) → code < 65536 → counts floor c code ≤ 65535
+  counts_small : (floor : ℕ) (c : Option ℕ) (code : ℕ) → code < 65536 → counts floor c code ≤ 65535
   unfolding counts
   counts_small floor c code h = by (valid floor c code)
     where

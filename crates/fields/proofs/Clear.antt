@@ -10,7 +10,7 @@ use lib.ListN.{length, take, drop, replicate}
 use lib.Seq.{take-nil, drop-nil}
 use borrow.Author.Tests.{le-ltb}
 use Rattle.wire.specs.Refusal.{kind, nat, buffer}
-use Rattle.wire.specs.Result.{Result, accepted, refused, refuse, then, lent}
+use Rattle.wire.specs.Result.{Result, accepted, refused, refuse, then, lent, answer}
 use Rattle.wire.specs.declared.error.Buffer.TheVariants as Buffer
 use Rattle.wire.proofs.Results.{then_by}
 use Rattle.scale.specs.declared.scaling.PrecipScale.{PrecipScale}
@@ -21,12 +21,11 @@ use Rattle.symbology.proofs.Clear.{clear_alike}
 use Rattle.sweep.specs.Sweep.{Accepted, sweep_of}
 use Rattle.sweep.specs.Clear.{clear_sweep, NoRows}
 use Rattle.sweep.proofs.Clear.{lent_nothing, clear_sweep_lem, clear_rows, clear_sweeps}
-use Rattle.fields.specs.declared.fields.TotalsAnswer.{TotalsAnswer}
 use Rattle.fields.specs.declared.plan.Record.{Record}
 use Rattle.fields.specs.declared.plan.Record.TheVariants.{Field, Strip, Malformed}
 use Rattle.fields.specs.Plan.{Entry, entries_of, fields_in, bad_at, repeated_at, leaves, outside_at, refuse_first, field_count, plan_of}
 use Rattle.fields.specs.Totals.{Grid, sum, strip_total, own_total, totals, items}
-use Rattle.fields.specs.Fields.{rain_of, Totalled, grid_of, planned, totals_of, totals_in, totals_answer_of, TotalsBuffers, TotalsRan}
+use Rattle.fields.specs.Fields.{TotalsAnswer, rain_of, Totalled, grid_of, planned, totals_of, totals_in, TotalsBuffers, TotalsRan}
 use Rattle.fields.specs.Clear.{is_strip, strips_at, clear_planned, clear_totals}
 use Rattle.fields.proofs.Joined.{made}
 use Rattle.fields.proofs.CodeRuns.{Call, Allowed, input, plan, old, new, call_runs}
@@ -139,11 +138,11 @@ module _ (scheme : Scheme) (file : List ℕ) (clock : ℕ) (packet : Packet) (b 
       (clear_rows scheme file clock packet b c t.sweep (sym (clear_sweep_lem scheme file clock packet b c na nc np) ∙ (made scheme file clock b file-plan na nc np nt t e).sweeps)))
 
   -- a run: its answer, the picture's buffers as they were, and the totals
-  clear_totals_run : (before after : TotalsBuffers) (answer : TotalsAnswer) → TotalsRan scheme file clock b file-plan before after answer
-      → (totals_answer_of answer ≡ totals_in (clear_totals scheme file clock packet b file-plan (length before.totals)))
+  clear_totals_run : (before after : TotalsBuffers) (said : TotalsAnswer) → TotalsRan scheme file clock b file-plan before after said
+      → (answer said ≡ totals_in (clear_totals scheme file clock packet b file-plan (length before.totals)))
       × (after.azimuths ≡ before.azimuths) × (after.codes ≡ before.codes) × (after.physical ≡ before.physical)
       × (after.totals ≡ lent (clear_totals scheme file clock packet b file-plan (length before.totals)) (λ t. t.totals) before.totals)
-  clear_totals_run before after answer ran =
+  clear_totals_run before after said ran =
       let na = length before.azimuths in
       let nc = length before.codes in
       let np = length before.physical in
@@ -162,7 +161,7 @@ module _ (packet : Packet) (c : Call) (allowed : Allowed c) (clear : ClearScan p
   abbrev given : Result Totalled
   given = clear_totals (input c).scheme (input c).file (input c).clock packet (input c).body (plan c) (length (old c).totals)
 
-  pub clear_totals_call : (totals_answer_of c.answer ≡ totals_in given)
+  pub clear_totals_call : (answer c.answer ≡ totals_in given)
       × ((new c).azimuths ≡ (old c).azimuths) × ((new c).codes ≡ (old c).codes) × ((new c).physical ≡ (old c).physical)
       × ((new c).totals ≡ lent given (λ t. t.totals) (old c).totals)
   clear_totals_call =

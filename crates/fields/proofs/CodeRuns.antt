@@ -12,20 +12,19 @@ use denote.Triple.Clauses.{AtExit}
 use mir.Syntax.{w8}
 use borrow.Table.Referent.{f_int}
 use borrow.Rule.Slice.Know.{Fit}
-use Rattle.wire.specs.Result.{Result, accepted, then, lent}
+use Rattle.std.specs.Prelude as Std
+use Rattle.wire.specs.Result.{Result, accepted, then, lent, answer}
 use Rattle.wire.proofs.Results.{one_value}
 use Rattle.scale.specs.declared.scaling.PrecipScale.{PrecipScale}
 use Rattle.scale.specs.declared.physical.Scheme.{Scheme}
 use Rattle.symbology.specs.declared.figures.Figures.{Figures}
 use Rattle.sweep.specs.Sweep.{buffers, Ran}
-use Rattle.sweep.specs.declared.sweep.SweepAnswer.TheVariants as SweepAnswer
 use Rattle.sweep.proofs.Parts.{sizes}
 use Rattle.sweep.proofs.GapCalls.{Input}
 use Rattle.sweep.proofs.Reading.{given_in, front_is}
 use Rattle.fields.specs.declared.fields.SweepTotals.{SweepTotals}
-use Rattle.fields.specs.declared.fields.TotalsAnswer.{TotalsAnswer}
 use Rattle.fields.specs.Totals.{weights}
-use Rattle.fields.specs.Fields.{rain_of, Totalled, totals_of, totals_answer_of, TotalsBuffers, totals_buffers, totals_into, TotalsRan}
+use Rattle.fields.specs.Fields.{rain_of, Totalled, totals_of, TotalsBuffers, totals_buffers, totals_into, TotalsRan}
 use Rattle.fields.specs.WithTotals.{records_of, Cut, Moved, OneCell}
 use Rattle.fields.proofs.Joined.{made, many_totals}
 use Rattle.fields.proofs.Promises.{Reads, ordinary, no_overflow, cut_in_two, moved_among, moves_up, moves_down}
@@ -94,7 +93,7 @@ Gives c =
     Reads (input c).scheme (input c).file (input c).clock (length (old c).azimuths) (length (old c).codes) (length (old c).physical)
     (length (old c).totals)
 
-module _ (c : Call) (allowed : Allowed c) (s : SweepTotals) (is : c.answer ≡ TotalsAnswer.Accepted s) where
+module _ (c : Call) (allowed : Allowed c) (s : SweepTotals) (is : c.answer ≡ Std.Ok s) where
   -- what it gave
   record Gave : Type 0 where
     t : Totalled
@@ -105,7 +104,7 @@ module _ (c : Call) (allowed : Allowed c) (s : SweepTotals) (is : c.answer ≡ T
 
   gave : Gave
   gave =
-      let g = given_in summed (reading c) (sym (ap totals_answer_of is) ∙ allowed.answered) in
+      let g = given_in summed (reading c) (sym (ap answer is) ∙ allowed.answered) in
       let t = g.0 in
       let e = g.1 in
       let m = made (input c).scheme (input c).file (input c).clock (input c).body (plan c) _ _ _ _ t e in
@@ -122,7 +121,7 @@ module _ (c : Call) (allowed : Allowed c) (s : SweepTotals) (is : c.answer ≡ T
 
   -- The picture that it left is that of a run of the ordinary reading.
   pub ordinary_call : Ran (input c).scheme (input c).file (input c).clock (input c).body (buffers (old c).azimuths (old c).codes (old c).physical)
-      (buffers (new c).azimuths (new c).codes (new c).physical) (SweepAnswer.Accepted s.sweep)
+      (buffers (new c).azimuths (new c).codes (new c).physical) (Std.Ok s.sweep)
   ordinary_call =
       let e = gave.reads.is in
       let o = sym (ordinary _ _ _ _ _ _ _ gave.reads) in
@@ -156,8 +155,8 @@ same_reading : {f f' : List ℕ} {k k' : ℕ} {h h' : Scheme} {b b' : List ℕ} 
 same_reading e₁ e₂ e₃ e₄ e₅ e₆ e₇ e₈ e₉ = rw (e₁, e₂, e₃, e₄, e₅, e₆, e₇, e₈, e₉)
 
 -- both are accepted
-module _ (c d : Call) (allowed : Allowed c) (allowed' : Allowed d) (alike : Alike c d) (s s' : SweepTotals) (is : c.answer ≡ TotalsAnswer.Accepted s)
-    (is' : d.answer ≡ TotalsAnswer.Accepted s') where
+module _ (c d : Call) (allowed : Allowed c) (allowed' : Allowed d) (alike : Alike c d) (s s' : SweepTotals) (is : c.answer ≡ Std.Ok s)
+    (is' : d.answer ≡ Std.Ok s') where
   first : Gave c allowed s is
   first = gave c allowed s is
 

@@ -3,17 +3,20 @@ use Prim.Native.Nat.{ℕ, ◌+◌, ◌*◌, ◌≤◌, ◌<◌}
 use mathlib.Core.Bool.{Bool, true, false}
 use mathlib.Core.List.{List, [], ◌∷◌, ◌++◌}
 use native.Mathlib.Omega.{arith}
+use mathlib.Core.Logic.{◌⊎◌, ⊎_elim}
 use mathlib.Core.Path.{◌≡◌, refl, sym, ap, ap₂, subst, ◌∙◌}
 use lib.Dec.{ltb}
 use lib.Ieee.{Float}
 use lib.ListN.{length, take, drop, length-append}
 use lib.Seq.{length-take-le}
 use borrow.Author.Tests.{ltb-false, lt-ltb, le-ltb}
+use Rattle.std.specs.Prelude as Std
 use Rattle.wire.specs.Refusal.{Refusal, kind, buffer, refusal_of}
-use Rattle.wire.specs.Result.{Result, accepted, refused, refuse, then, lent}
+use Rattle.wire.specs.Result.{Result, accepted, refused, refuse, then, lent, answer}
 use Rattle.wire.specs.declared.error.Buffer.TheVariants as Buffer
 use Rattle.wire.specs.declared.error.Level3DecodeError.{Level3DecodeError}
 use Rattle.wire.proofs.Results.{clash, one_value, through, passed}
+use Rattle.scale.specs.declared.scaling.LinearScale.{LinearScale}
 use Rattle.scale.specs.declared.scaling.PrecipScale.{PrecipScale}
 use Rattle.scale.specs.declared.physical.Scheme.{Scheme}
 use Rattle.scale.specs.declared.physical.Scaling.{Scaling}
@@ -21,16 +24,13 @@ use Rattle.symbology.specs.declared.figures.Figures.{Figures}
 use Rattle.symbology.specs.Answers.{Picture, picture_of, figures_in}
 use Rattle.sweep.specs.declared.plan.Head.{Head}
 use Rattle.sweep.specs.declared.sweep.Sweep.{Sweep}
-use Rattle.sweep.specs.declared.sweep.SweepAnswer.{SweepAnswer}
-use Rattle.sweep.specs.Sweep.{head_of, Accepted, sweep_of, sweep_in, answer_of}
+use Rattle.sweep.specs.Sweep.{head_of, Accepted, sweep_of, sweep_in}
 use Rattle.sweep.proofs.Parts.{Sizes, sizes, codes_fit}
 use Rattle.sweep.proofs.Reading.{no_picture_lem, refused_in, given_in, front_is}
-use Rattle.fields.specs.declared.fields.TotalsAnswer.{TotalsAnswer}
 use Rattle.fields.specs.declared.fields.Checked.{Checked}
-use Rattle.fields.specs.declared.plan.PlanCheck.{PlanCheck}
-use Rattle.fields.specs.Plan.{entries_of, plan_of, plan_check_of}
+use Rattle.fields.specs.Plan.{entries_of, plan_of}
 use Rattle.fields.specs.Totals.{grid, totals, items}
-use Rattle.fields.specs.Fields.{rain_scale, rain_of, Totalled, grid_of, planned, totals_of, totals_in, totals_answer_of, checked_in, checked_on, totals_buffers, TotalsRan}
+use Rattle.fields.specs.Fields.{TotalsAnswer, rain_scale, rain_of, Totalled, grid_of, planned, totals_of, totals_in, checked_in, checked_on, totals_buffers, TotalsRan}
 use Rattle.fields.proofs.Writing as writing
 
 -- ---- another scheme
@@ -47,25 +47,6 @@ module _ (body : List ℕ) where
   some_figures e = sym (ap no_rain (given_in (λ (p : Picture). p.figures) (picture_of body) e).1)
 
 -- ---- the plan over a sweep
-
-module _ (plan : List ℕ) (nt : ℕ) (scale : PrecipScale) {a : SweepAnswer} where
-  pub no_sweep : {e : Level3DecodeError} → a ≡ SweepAnswer.Refused e → refused (refusal_of e) ≡ checked_on plan nt scale (answer_of a)
-  unfolding checked_on
-  no_sweep i = rw i
-
-  module _ {s : Sweep} (i : a ≡ SweepAnswer.Accepted s) {x : PlanCheck} (q : plan_check_of x ≡ plan_of plan s.figures.n_radials s.figures.n_bins) where
-    pub no_plan : {e : Level3DecodeError} → x ≡ PlanCheck.Refused e → refused (refusal_of e) ≡ checked_on plan nt scale (answer_of a)
-    unfolding checked_on
-    no_plan j = let g = ap plan_check_of j in rw (i, ← q, g)
-
-    module _ {n : ℕ} (j : x ≡ PlanCheck.Passed n) where
-      pub no_room : nt < n → refused (kind 36 (buffer Buffer.Totals ∷ [])) ≡ checked_on plan nt scale (answer_of a)
-      unfolding checked_on
-      no_room h = let g = ap plan_check_of j in rw (i, ← q, g, lt-ltb nt n h)
-
-      pub all_passed : n ≤ nt → accepted (record { sweep = s; scale = scale; fields = n }) ≡ checked_on plan nt scale (answer_of a)
-      unfolding checked_on
-      all_passed h = let g = ap plan_check_of j in rw (i, ← q, g, le-ltb nt n h)
 
 -- what is given once a plan has n fields: of the reading, and of the check
 abbrev total : List ℕ → PrecipScale → Accepted → ℕ → Totalled
@@ -88,6 +69,10 @@ checked_on_lem plan nt scale (accepted a) = by (plan_of plan a.sweep.figures.n_r
         ≡ checked_in (then z λ n. refuse (ltb nt n) (kind 36 (buffer Buffer.Totals ∷ [])) (accepted (total plan scale a n)))
     by (refused x) = refl
     by (accepted n) = room (ltb nt n) n
+
+-- a scaling of another family
+pub rainless : {s : Scaling} → ((l : LinearScale) × (s ≡ Scaling.Linear l)) ⊎ (((at : ℕ) × (post : Float) × (s ≡ Scaling.Legacy at post)) ⊎ (s ≡ Scaling.Class)) → rain_scale s ≡ refused (kind 10 [])
+rainless h = ⊎_elim (λ l. ap rain_scale l.1) (λ k. ⊎_elim (λ l. ap rain_scale l.2) (λ q. ap rain_scale q) k) h
 
 -- ---- all tests
 
@@ -159,7 +144,7 @@ module _ (scheme : Scheme) (file : List ℕ) (clock : ℕ) (body plan : List ℕ
   Reads r az' cs' ph' ts' = TotalsRan scheme file clock body plan (totals_buffers az cs ph ts) (totals_buffers az' cs' ph' ts') r
 
   -- what the code says and leaves, by a result
-  told : {d : Result Totalled} {r : TotalsAnswer} {az' : List Float} {cs' : List ℕ} {ph' : List Float} {ts' : List ℕ} → d ≡ D → totals_answer_of r ≡ totals_in d
+  told : {d : Result Totalled} {r : TotalsAnswer} {az' : List Float} {cs' : List ℕ} {ph' : List Float} {ts' : List ℕ} → d ≡ D → answer r ≡ totals_in d
       → az' ≡ lent d (λ t. t.sweep.azimuths) az → cs' ≡ lent d (λ t. t.sweep.codes) cs → ph' ≡ lent d (λ t. t.sweep.physical) ph
       → ts' ≡ lent d (λ t. t.totals) ts → Reads r az' cs' ph' ts'
   told e i a c v o =
@@ -171,7 +156,7 @@ module _ (scheme : Scheme) (file : List ℕ) (clock : ℕ) (body plan : List ℕ
         totals = o ∙ ap (λ d. lent d (λ t. t.totals) ts) e;
       }
 
-  pub refuses : {x : Level3DecodeError} → refused (refusal_of x) ≡ checked_in D → Reads (TotalsAnswer.Refused x) az cs ph ts
+  pub refuses : {x : Level3DecodeError} → refused (refusal_of x) ≡ checked_in D → Reads (Std.Err x) az cs ph ts
   refuses e = told (sym (refused_in check_of D e)) refl refl refl refl refl
 
   -- what is known once all tests have passed
@@ -227,7 +212,7 @@ module _ (scheme : Scheme) (file : List ℕ) (clock : ℕ) (body plan : List ℕ
 
       pub done : {az' ph' : List Float} {out : List ℕ} → az' ≡ lent S (λ p. p.azimuths) az → ph' ≡ lent S (λ p. p.physical) ph
           → out ≡ totals_by k (take (k.sweep.figures.n_radials * k.sweep.figures.n_bins) cs')
-          → Reads (TotalsAnswer.Accepted (record { sweep = k.sweep; fields = k.fields })) az' cs' ph' (out ++ drop k.fields ts)
+          → Reads (Std.Ok (record { sweep = k.sweep; fields = k.fields })) az' cs' ph' (out ++ drop k.fields ts)
       done {out = out} a p o =
           let same : out ≡ w.t.totals =
           o ∙ ap (totals_by k) front ∙ ap (λ (q : Checked). totals_by q w.t.sweep.codes) w.told ∙ sym from.totals_are in

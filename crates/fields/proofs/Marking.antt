@@ -1,4 +1,5 @@
 -- The marks, one for each number: the loop of `first_repeat`. Assumes nothing.
+use Rattle.std.specs.Prelude.{Some, None}
 use Rattle.wire.specs.Text.{member}
 use Rattle.wire.proofs.Walks.{member_none, member_more}
 use mathlib.Core.Path.{◌≡◌, refl, sym, ap, ◌∙◌}
@@ -12,7 +13,6 @@ use lib.Seq.{get_or-set_same, get_or-set_other}
 use borrow.Author.Tests.{eqb-true, eqb-false}
 use Rattle.fields.specs.declared.plan.Record.{Record}
 use Rattle.fields.specs.declared.plan.Record.TheVariants.{Field, Strip, Malformed}
-use Rattle.fields.specs.declared.plan.Found.TheVariants.{At, Nothing}
 use Rattle.fields.specs.Plan.{record_at, size_of, entries_from, entries_of, numbers_in, repeats, repeated_at, first_of}
 use Rattle.fields.specs.Marks.{again, marked, Halfword}
 use Rattle.fields.proofs.Walk.{here, here_on, here_malformed, entries_end}
@@ -52,12 +52,12 @@ again_is t Malformed h = refl
 told_next : {marks named : List ℕ} → Told marks named → (x : Record) → Halfword x → Told (marked marks x) (numbers_in x ++ named)
 told_next {marks} {named} t (Field n) h = record {
   long = length-set marks n 1 ∙ t.long;
-  tell = λ m l. by_case m l (eqb m n) refl ∙ sym (ap bit (member_more m n named));
+  tell = λ m l. by_case m l (eqb n m) refl ∙ sym (ap bit (member_more m n named));
 }
   where
-    by_case : (m : ℕ) → m < 65536 → (b : Bool) → eqb m n ≡ b → get_or (set marks n 1) m 0 ≡ bit (eqb m n || member m named)
-    by_case m l true e = rw (e, eqb-true m n e) (get_or-set_same marks n 1 0 (omega (arith, t.long)))
-    by_case m l false e = rw e (get_or-set_other marks n m 1 0 (eqb-false m n e) ∙ t.tell m l)
+    by_case : (m : ℕ) → m < 65536 → (b : Bool) → eqb n m ≡ b → get_or (set marks n 1) m 0 ≡ bit (eqb n m || member m named)
+    by_case m l true e = rw (e, sym (eqb-true n m e)) (get_or-set_same marks n 1 0 (omega (arith, t.long)))
+    by_case m l false e = rw e (get_or-set_other marks n m 1 0 (λ q. eqb-false n m e (sym q)) ∙ t.tell m l)
 told_next t (Strip r g c w) h = t
 told_next t Malformed h = t
 
@@ -69,7 +69,7 @@ pub record Marking (plan marks : List ℕ) (at : ℕ) : Type 0 where
 pub marking_first : (plan : List ℕ) → Marking plan (replicate {A = ℕ} 65536 0) 0
 marking_first plan = record { named = []; told = told_none; left = refl }
 
-pub marking_end : {plan marks : List ℕ} {at : ℕ} → Marking plan marks at → length plan ≤ at → Nothing ≡ first_of (repeated_at [] (entries_of plan))
+pub marking_end : {plan marks : List ℕ} {at : ℕ} → Marking plan marks at → length plan ≤ at → None ≡ first_of (repeated_at [] (entries_of plan))
 unfolding repeated_at
 marking_end {plan} {marks} {at} w h = rw (entries_end plan at h) at w.left
 
@@ -78,11 +78,11 @@ module _ {plan marks : List ℕ} {at : ℕ} (w : Marking plan marks at) (h : at 
   tested : repeats w.named x ≡ b
   tested = sym (i ∙ again_is w.told x k)
 
-  pub marking_stop : b ≡ true → At at ≡ first_of (repeated_at [] (entries_of plan))
+  pub marking_stop : b ≡ true → Some at ≡ first_of (repeated_at [] (entries_of plan))
   unfolding repeated_at
   marking_stop t = rw (here plan h e {n = size_of x} refl, tested ∙ t) at w.left
 
-  pub marking_last : b ≡ false → {n : ℕ} → n ≡ size_of x → n ≡ 0 → Nothing ≡ first_of (repeated_at [] (entries_of plan))
+  pub marking_last : b ≡ false → {n : ℕ} → n ≡ size_of x → n ≡ 0 → None ≡ first_of (repeated_at [] (entries_of plan))
   unfolding repeated_at
   marking_last t is-n z = rw (here plan h e is-n, tested ∙ t, here_malformed plan h e is-n z) at w.left
 

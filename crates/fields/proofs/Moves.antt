@@ -10,10 +10,10 @@ use lib.Dec.{eqb, leb, ltb}
 use lib.ListN.{length, get_or, take, drop, set, length-take, length-drop}
 use lib.Seq.{take-set-le, take-set-lt, drop-set-lt, drop-set-add, get_or-take, get_or-drop}
 use borrow.Author.Tests.{eqb-true, eqb-false, leb-true, leb-false, ltb-true, ltb-false}
+use Rattle.std.specs.Prelude.{Option, Some, None}
 use Rattle.fields.specs.declared.plan.Record.{Record}
 use Rattle.fields.specs.declared.plan.Record.TheVariants.{Field, Strip}
 use Rattle.scale.specs.Scaling.{valid}
-use Rattle.scale.specs.declared.scaling.Ceiling.{Ceiling}
 use Rattle.fields.proofs.Walk.{and_both}
 use Rattle.fields.specs.Totals.{Grid, counts, sum, strip_total, own_total, totals, covers, own_weight, weights}
 
@@ -28,12 +28,12 @@ sum_set f [] i v h = absurd (omega arith)
 sum_set f (x ∷ l) zero v h = omega arith
 sum_set f (x ∷ l) (suc i) v h = let t = sum_set f l i v (le_of_suc-le-suc h) in omega arith
 
-pub floored : (floor : ℕ) (c : Ceiling) (v : ℕ) → valid floor c v ≡ true → floor ≤ v
-floored floor (Ceiling.At top) v h = leb-true _ _ (and_both (leb floor v) h).0
-floored floor Ceiling.Absent v h = leb-true _ _ h
+pub floored : (floor : ℕ) (c : Option ℕ) (v : ℕ) → valid floor c v ≡ true → floor ≤ v
+floored floor (Some top) v h = leb-true _ _ (and_both (leb floor v) h).0
+floored floor None v h = leb-true _ _ h
 
 -- a valid code's count, times a weight
-weighed : (floor : ℕ) (c : Ceiling) (w v : ℕ) → valid floor c v ≡ true → w * counts floor c v + w * floor ≡ w * v
+weighed : (floor : ℕ) (c : Option ℕ) (w v : ℕ) → valid floor c v ≡ true → w * counts floor c v + w * floor ≡ w * v
 unfolding counts
 weighed floor c w v h =
     let l : floor ≤ v = floored floor c v h in

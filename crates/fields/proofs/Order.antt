@@ -24,7 +24,7 @@ use Rattle.fields.specs.Fields.{rain_of, planned, totals_of}
 use Rattle.fields.specs.Order.{Order}
 
 pub order : Order
-unfolding totals_of rain_of planned plan_of entries_from entries_in record_at bad_at repeated_at outside_at field_count counts sum strip_total own_total totals scale_pair precip_family_scale hw_pair f32_at neg eq finite sweep_of head_of finish allowed room_for token cut first_token same blank alphanumeric member all leading trim_front trim_end message_header first_of header_at known codes scan_time pdb_fields hw_i32 hw_i16 hw_u16 field_at i32_at i16_at u32_at u16_at signed value_scaling_linear_hw scale_fields declared_scale physical_of value_of picture_of joined run more after_row ◌>>=◌ ◌>>◌ remaining u16 u32 unread radial_data refuse_if symbology packet_of radial_packet packet_header first_bin over_body radial_walk radial frame covered count_wrong row_of row16 centre centre28 generic_packet body_short payload product_block component component_head xdr_radials xdr_radial xdr_walk xdr_frame only int float string string_body uint word short pass array_count pointer counted list_head elements further parameter row28 words push levels f32 f64 add div mul le rem of_int of_bits
+unfolding totals_of rain_of planned plan_of entries_from entries_in record_at bad_at repeated_at outside_at field_count counts sum strip_total own_total totals scale_pair precip_family_scale hw_pair f32_at neg eq sweep_of head_of finish allowed room_for token cut first_token leading trim_front trim_end message_header first_of header_at known codes scan_time pdb_fields hw_i32 hw_i16 hw_u16 field_at i32_at i16_at u32_at u16_at signed value_scaling_linear_hw scale_fields declared_scale physical_of value_of picture_of joined run more after_row ◌>>=◌ ◌>>◌ remaining u16 u32 unread radial_data refuse_if symbology packet_of radial_packet packet_header first_bin over_body radial_walk radial frame covered count_wrong row_of row16 centre centre28 generic_packet body_short payload product_block component component_head xdr_radials xdr_radial xdr_walk xdr_frame only int float string string_body uint word short pass array_count pointer counted list_head elements further parameter row28 words push levels f32 f64 add div mul le rem of_int of_bits
 order = record {
   scheme_first = refl;
   body_before_scheme = refl;

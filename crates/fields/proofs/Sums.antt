@@ -10,13 +10,13 @@ use lib.Dec.{leb}
 use lib.ListN.{length, get_or, drop, drop_of_length-le}
 use lib.Seq.{drop-cons}
 use borrow.Author.Tests.{le-leb, lt-leb}
-use Rattle.scale.specs.declared.scaling.Ceiling.{Ceiling}
+use Rattle.std.specs.Prelude.{Option, Some, None}
 use Rattle.fields.specs.Totals.{counts, top_of, sum, most}
 
 -- the answers of `counted`
 module _ (floor top code : ℕ) where
   abbrev Says : ℕ → Type 0
-  Says r = (r ≡ counts floor (Ceiling.At top) code) × ((r ≤ 65535) × (code < 65536))
+  Says r = (r ≡ counts floor (Some top) code) × ((r ≤ 65535) × (code < 65536))
 
   pub below : code < floor → code < 65536 → Says 0
   unfolding counts
@@ -31,18 +31,18 @@ module _ (floor top code : ℕ) where
   between l h hc = (rw (le-leb floor code l, le-leb code top h), (omega arith, hc))
 
 -- up to the highest code that may be valid is up to the ceiling
-top_counts : (floor code : ℕ) (c : Ceiling) → code < 65536 → counts floor (Ceiling.At (top_of c)) code ≡ counts floor c code
+top_counts : (floor code : ℕ) (c : Option ℕ) → code < 65536 → counts floor (Some (top_of c)) code ≡ counts floor c code
 unfolding counts
-top_counts floor code (Ceiling.At top) h = refl
-top_counts floor code Ceiling.Absent h = let l : code ≤ 65535 = omega arith in rw (le-leb code 65535 l) (by (leb floor code))
+top_counts floor code (Some top) h = refl
+top_counts floor code None h = let l : code ≤ 65535 = omega arith in rw (le-leb code 65535 l) (by (leb floor code))
   where
     by : (b : Bool) → cond (b && true) (code - floor) 0 ≡ cond b (code - floor) 0
     by true = refl
     by false = refl
 
-pub to_ceiling : (floor code : ℕ) (c : Ceiling) {top r : ℕ} → top ≡ top_of c
-    → (r ≡ counts floor (Ceiling.At top) code) × ((r ≤ 65535) × (code < 65536)) → (r ≡ counts floor c code) × (r ≤ 65535)
-to_ceiling floor code c i e = (e.0 ∙ ap (λ t. counts floor (Ceiling.At t) code) i ∙ top_counts floor code c e.1.1, e.1.0)
+pub to_ceiling : (floor code : ℕ) (c : Option ℕ) {top r : ℕ} → top ≡ top_of c
+    → (r ≡ counts floor (Some top) code) × ((r ≤ 65535) × (code < 65536)) → (r ≡ counts floor c code) × (r ≤ 65535)
+to_ceiling floor code c i e = (e.0 ∙ ap (λ t. counts floor (Some t) code) i ∙ top_counts floor code c e.1.1, e.1.0)
 
 -- the loop of `cells_total`
 pub record Adding (f : ℕ → ℕ) (cells : List ℕ) (total i : ℕ) : Type 0 where

@@ -1,4 +1,5 @@
 -- The records of a plan, one after the other, as the loops over them meet them. Assumes nothing.
+use Rattle.std.specs.Prelude.{Some, None}
 use Rattle.wire.specs.Bytes.{u16_at}
 use mathlib.Core.Path.{◌≡◌, refl, sym, ◌∙◌}
 use mathlib.Core.Bool.{Bool, true, false, cond, ◌&&◌}
@@ -11,7 +12,6 @@ use lib.ListN.{length, get_or}
 use borrow.Author.Tests.{le-leb, lt-leb, lt-ltb, le-ltb, leb-true}
 use Rattle.fields.specs.declared.plan.Record.{Record}
 use Rattle.fields.specs.declared.plan.Record.TheVariants.{Field, Strip, Malformed}
-use Rattle.fields.specs.declared.plan.Found.TheVariants.{At, Nothing}
 use Rattle.fields.specs.Plan.{record_at, size_of, fields_in, strips_in, Entry, after, entries_in, entries_from, entries_of, bad, bad_at, first_of, leaves, outside_at, field_count}
 
 pub and_both : (a : Bool) {b : Bool} → (a && b) ≡ true → (a ≡ true) × (b ≡ true)
@@ -112,7 +112,7 @@ pub record Bads (plan : List ℕ) (at fields strips : ℕ) : Type 0 where
 pub bads_first : (plan : List ℕ) → Bads plan 0 0 0
 bads_first plan = record { inside = omega arith; few = omega arith; left = refl }
 
-pub bads_end : {plan : List ℕ} {at fields strips : ℕ} → Bads plan at fields strips → length plan ≤ at → Nothing ≡ first_of (bad_at 0 0 (entries_of plan))
+pub bads_end : {plan : List ℕ} {at fields strips : ℕ} → Bads plan at fields strips → length plan ≤ at → None ≡ first_of (bad_at 0 0 (entries_of plan))
 unfolding bad_at
 bads_end {plan} {at} w h = rw (entries_end plan at h) at w.left
 
@@ -124,7 +124,7 @@ module _ {plan : List ℕ} {at fields strips : ℕ} (w : Bads plan at fields str
   unfolding bad_at
   one = sym w.left ∙ rw (entries_next plan at h, i, e)
 
-  pub bads_stop : b ≡ true → At at ≡ first_of (bad_at 0 0 (entries_of plan))
+  pub bads_stop : b ≡ true → Some at ≡ first_of (bad_at 0 0 (entries_of plan))
   bads_stop t = rw (one, t)
 
   module _ (t : b ≡ false) where
@@ -150,31 +150,6 @@ module _ {plan : List ℕ} {at fields strips : ℕ} (w : Bads plan at fields str
       left = rw (is-n, is_f, is-s) (sym (one ∙ rw (t, is_solid.goes_on (entries_from plan (at + size_of x)))));
     }
 
--- the answers of `is_bad`
-module _ (fields strips : ℕ) {x : Record} {r g c w : ℕ} (i : x ≡ Strip r g c w) where
-  pub no_field : fields < 1 → true ≡ bad fields strips x
-  no_field h = rw (i, lt-leb 1 fields h)
-
-  pub no_gate : 1 ≤ fields → c < 1 → true ≡ bad fields strips x
-  no_gate f h = rw (i, le-leb 1 fields f, lt-leb 1 c h)
-
-  pub stands : 1 ≤ fields → 1 ≤ c → strips < 4096 → false ≡ bad fields strips x
-  stands f g h = rw (i, le-leb 1 fields f, le-leb 1 c g, lt-ltb strips 4096 h)
-
-  pub too_many : 1 ≤ fields → 1 ≤ c → 4096 ≤ strips → true ≡ bad fields strips x
-  too_many f g h = rw (i, le-leb 1 fields f, le-leb 1 c g, le-ltb strips 4096 h)
-
--- the answers of `leaves_grid`
-module _ (radials bins : ℕ) {x : Record} {r g c w : ℕ} (i : x ≡ Strip r g c w) where
-  pub other_radial : radials ≤ r → true ≡ leaves radials bins x
-  other_radial h = rw (i, le-ltb r radials h)
-
-  pub too_long : r < radials → bins < g + c → true ≡ leaves radials bins x
-  too_long k h = rw (i, lt-ltb r radials k, lt-leb (g + c) bins h)
-
-  pub in_grid : r < radials → g + c ≤ bins → false ≡ leaves radials bins x
-  in_grid k h = rw (i, lt-ltb r radials k, le-leb (g + c) bins h)
-
 -- the loop of `first_outside`
 pub record Outs (plan : List ℕ) (radials bins at : ℕ) : Type 0 where
   pub left : first_of (outside_at radials bins (entries_from plan at)) ≡ first_of (outside_at radials bins (entries_of plan))
@@ -183,17 +158,17 @@ pub outs_first : (plan : List ℕ) (radials bins : ℕ) → Outs plan radials bi
 outs_first plan radials bins = record { left = refl }
 
 pub outs_end : {plan : List ℕ} {radials bins at : ℕ} → Outs plan radials bins at → length plan ≤ at
-    → Nothing ≡ first_of (outside_at radials bins (entries_of plan))
+    → None ≡ first_of (outside_at radials bins (entries_of plan))
 unfolding outside_at
 outs_end {plan} {radials} {bins} {at} w h = rw (entries_end plan at h) at w.left
 
 module _ {plan : List ℕ} {radials bins at : ℕ} (w : Outs plan radials bins at) (h : at < length plan) {x : Record} (e : x ≡ record_at plan at) {b : Bool}
     (i : b ≡ leaves radials bins x) where
-  pub outs_stop : b ≡ true → At at ≡ first_of (outside_at radials bins (entries_of plan))
+  pub outs_stop : b ≡ true → Some at ≡ first_of (outside_at radials bins (entries_of plan))
   unfolding outside_at
   outs_stop t = rw (here plan h e {n = size_of x} refl, sym i ∙ t) at w.left
 
-  pub outs_last : b ≡ false → {n : ℕ} → n ≡ size_of x → n ≡ 0 → Nothing ≡ first_of (outside_at radials bins (entries_of plan))
+  pub outs_last : b ≡ false → {n : ℕ} → n ≡ size_of x → n ≡ 0 → None ≡ first_of (outside_at radials bins (entries_of plan))
   unfolding outside_at
   outs_last t is-n z = rw (here plan h e is-n, sym i ∙ t, here_malformed plan h e is-n z) at w.left
 

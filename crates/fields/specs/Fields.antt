@@ -1,9 +1,11 @@
 -- The sweep reading with the totals of a field plan (document 02, M-104). Order: all refusals of the sweep, where any scheme but
 -- precipitation is 10 in its usual place; 37, 38, 39, each over the whole plan; 36 for the totals buffer.
 use Rattle.std.specs.Prelude.{ℕ, List, [], ◌∷◌, ◌≡◌, ltb, length, Float}
-use Rattle.wire.specs.Refusal.{kind, buffer, refusal_of}
-use Rattle.wire.specs.Result.{Result, accepted, refused, refuse, then, lent}
+use Rattle.std.specs.Prelude as Std
+use Rattle.wire.specs.Refusal.{kind, buffer}
+use Rattle.wire.specs.Result.{Result, accepted, answer, refused, refuse, then, lent}
 use Rattle.wire.specs.declared.error.Buffer.TheVariants as Buffer
+use Rattle.wire.specs.declared.error.Level3DecodeError.{Level3DecodeError}
 use Rattle.scale.specs.declared.scaling.PrecipScale.{PrecipScale}
 use Rattle.scale.specs.declared.physical.Scheme.{Scheme}
 use Rattle.scale.specs.declared.physical.Scaling.{Scaling}
@@ -11,9 +13,7 @@ use Rattle.symbology.specs.Answers.{picture_of}
 use Rattle.sweep.specs.declared.sweep.Sweep.{Sweep}
 use Rattle.sweep.specs.Sweep.{head_of, Accepted, sweep_of}
 use Rattle.fields.specs.declared.fields.SweepTotals.{SweepTotals}
-use Rattle.fields.specs.declared.fields.TotalsAnswer.{TotalsAnswer}
 use Rattle.fields.specs.declared.fields.Checked.{Checked}
-use Rattle.fields.specs.declared.fields.CheckedRead.{CheckedRead}
 use Rattle.fields.specs.Plan.{entries_of, plan_of}
 use Rattle.fields.specs.Totals.{Grid, grid, totals, items}
 
@@ -60,22 +60,17 @@ totals_of scheme file clock body plan na nc np nt =
 abbrev pub totals_in : Result Totalled → Result SweepTotals
 totals_in r = then r λ t. accepted (record { sweep = t.sweep.sweep; fields = t.fields })
 
-abbrev pub totals_answer_of : TotalsAnswer → Result SweepTotals
-totals_answer_of (TotalsAnswer.Accepted s) = accepted s
-totals_answer_of (TotalsAnswer.Refused e) = refused (refusal_of e)
+abbrev pub TotalsAnswer : Type 0
+TotalsAnswer = Std.Result SweepTotals Level3DecodeError
 
 -- the same of the check
 abbrev pub checked_in : Result Totalled → Result Checked
 checked_in r = then r λ t. accepted (record { sweep = t.sweep.sweep; scale = t.scale; fields = t.fields })
 
-abbrev pub checked_of : CheckedRead → Result Checked
-checked_of (CheckedRead.Value k) = accepted k
-checked_of (CheckedRead.Refused e) = refused (refusal_of e)
-
 -- a plan over what a sweep's check answers
 unfoldable pub checked_on : List ℕ → ℕ → PrecipScale → Result Sweep → Result Checked
-checked_on plan nt scale answer =
-    then answer λ s.
+checked_on plan nt scale swept =
+    then swept λ s.
     then (plan_of plan s.figures.n_radials s.figures.n_bins) λ n.
     refuse (ltb nt n) (kind 36 (buffer Buffer.Totals ∷ []))
     (accepted (record { sweep = s; scale = scale; fields = n }))
@@ -98,8 +93,8 @@ totals_into scheme file clock body plan old =
     totals_of scheme file clock body plan (length old.azimuths) (length old.codes) (length old.physical) (length old.totals)
 
 -- One run with a plan: the answer, and what the buffers hold before and after.
-pub record TotalsRan (scheme : Scheme) (file : List ℕ) (clock : ℕ) (body plan : List ℕ) (old new : TotalsBuffers) (answer : TotalsAnswer) : Type 0 where
-  pub answered : totals_answer_of answer ≡ totals_in (totals_into scheme file clock body plan old)
+pub record TotalsRan (scheme : Scheme) (file : List ℕ) (clock : ℕ) (body plan : List ℕ) (old new : TotalsBuffers) (said : TotalsAnswer) : Type 0 where
+  pub answered : answer said ≡ totals_in (totals_into scheme file clock body plan old)
   pub azimuths : new.azimuths ≡ lent (totals_into scheme file clock body plan old) (λ t. t.sweep.azimuths) old.azimuths
   pub codes : new.codes ≡ lent (totals_into scheme file clock body plan old) (λ t. t.sweep.codes) old.codes
   pub physical : new.physical ≡ lent (totals_into scheme file clock body plan old) (λ t. t.sweep.physical) old.physical

@@ -1,13 +1,9 @@
 -- A field plan (document 02, M-104): its records, and the refusals 37, 38 and 39.
-use Rattle.std.specs.Prelude.{Bool, true, false, not, cond, ◌&&◌, List, [], ◌∷◌, ◌++◌, ℕ, zero, suc, ◌+◌, ◌-◌, eqb, leb, ltb, length, get_or}
+use Rattle.std.specs.Prelude.{Bool, true, false, not, cond, ◌&&◌, List, [], ◌∷◌, ◌++◌, ℕ, zero, suc, ◌+◌, ◌-◌, eqb, leb, ltb, length, get_or, Option, Some, None}
 use Rattle.wire.specs.Result.{Result, accepted, refused}
 use Rattle.wire.specs.Bytes.{u16_at}
 use Rattle.wire.specs.Text.{member}
-use Rattle.wire.specs.Refusal.{kind, nat, refusal_of}
-use Rattle.fields.specs.declared.plan.Found.{Found}
-use Rattle.fields.specs.declared.plan.Found.TheVariants.{At, Nothing}
-use Rattle.fields.specs.declared.plan.PlanCheck.{PlanCheck}
-use Rattle.fields.specs.declared.plan.PlanCheck.TheVariants.{Passed, Refused}
+use Rattle.wire.specs.Refusal.{kind, nat}
 use Rattle.fields.specs.declared.plan.Record.{Record}
 use Rattle.fields.specs.declared.plan.Record.TheVariants.{Field, Strip, Malformed}
 
@@ -123,10 +119,6 @@ plan_of plan radials bins =
     (accepted (field_count (entries_of plan)))))
 
 -- the first of some offsets, as the walks answer it
-abbrev pub first_of : List ℕ → Found
-first_of [] = Nothing
-first_of (o ∷ os) = At o
-
-abbrev pub plan_check_of : PlanCheck → Result ℕ
-plan_check_of (Passed n) = accepted n
-plan_check_of (Refused e) = refused (refusal_of e)
+abbrev pub first_of : List ℕ → Option ℕ
+first_of [] = None
+first_of (o ∷ os) = Some o

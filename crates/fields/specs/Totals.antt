@@ -1,7 +1,6 @@
 -- A field's total (document 02, M-104), over the codes of an accepted sweep with the precipitation scheme.
-use Rattle.std.specs.Prelude.{Bool, cond, ◌&&◌, List, [], ◌∷◌, map, ℕ, ◌+◌, ◌*◌, ◌-◌, eqb, leb, ltb, take, drop}
+use Rattle.std.specs.Prelude.{Bool, cond, ◌&&◌, List, [], ◌∷◌, map, ℕ, ◌+◌, ◌*◌, ◌-◌, eqb, leb, ltb, take, drop, Option, Some, None}
 use Rattle.scale.specs.Scaling.{valid}
-use Rattle.scale.specs.declared.scaling.Ceiling.{Ceiling}
 use Rattle.fields.specs.declared.plan.Record.{Record}
 use Rattle.fields.specs.declared.plan.Record.TheVariants.{Field, Strip, Malformed}
 use Rattle.fields.specs.Plan.{Entry}
@@ -11,19 +10,19 @@ pub record Grid : Type 0 where
   pub codes : List ℕ
   pub bins : ℕ
   pub floor : ℕ
-  pub ceiling : Ceiling
+  pub ceiling : Option ℕ
 
-abbrev pub grid : List ℕ → ℕ → ℕ → Ceiling → Grid
+abbrev pub grid : List ℕ → ℕ → ℕ → Option ℕ → Grid
 grid codes bins floor ceiling = record { codes = codes; bins = bins; floor = floor; ceiling = ceiling }
 
 -- what a cell's code counts: code - floor, for a valid code
-unfoldable pub counts : ℕ → Ceiling → ℕ → ℕ
+unfoldable pub counts : ℕ → Option ℕ → ℕ → ℕ
 counts floor ceiling code = cond (valid floor ceiling code) (code - floor) 0
 
 -- the highest code that may be valid: a code is a halfword
-abbrev pub top_of : Ceiling → ℕ
-top_of (Ceiling.At top) = top
-top_of Ceiling.Absent = 65535
+abbrev pub top_of : Option ℕ → ℕ
+top_of (Some top) = top
+top_of None = 65535
 
 unfoldable pub sum : List ℕ → ℕ
 sum [] = 0

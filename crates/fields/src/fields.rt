@@ -2,17 +2,13 @@
 // the totals buffer.
 ghost use Rattle.std.specs.Prelude.{◌≡◌, []};
 ghost use Rattle.wire.specs.Refusal.{kind};
-ghost use Rattle.wire.specs.Result.{refused, then};
+ghost use Rattle.wire.specs.Result.{accepted, answer, refused, then};
 ghost use Rattle.symbology.specs.Answers.{picture_of};
-ghost use Rattle.sweep.specs.Sweep.{answer_of};
-ghost use Rattle.fields.specs.Fields.{totals_of, checked_in, checked_of, checked_on, totals_buffers, TotalsRan};
+ghost use Rattle.fields.specs.Fields.{totals_of, checked_in, checked_on, totals_buffers, TotalsRan};
 
-use crate::plan::PlanCheck;
 use scale::physical::{Scaling, Scheme};
 use scale::scaling::PrecipScale;
-use sweep::plan::HeadRead;
-use sweep::sweep::{Sweep, SweepAnswer};
-use symbology::figures::FiguresRead;
+use sweep::sweep::Sweep;
 use wire::error::{Buffer, Level3DecodeError};
 
 // What acceptance gives beside the picture and the totals: the sweep, and how many fields the plan has.
@@ -20,12 +16,6 @@ use wire::error::{Buffer, Level3DecodeError};
 pub struct SweepTotals {
     pub sweep: Sweep,
     pub fields: usize,
-}
-
-#[derive(Clone, Copy)]
-pub enum TotalsAnswer {
-    Accepted(SweepTotals),
-    Refused(Level3DecodeError),
 }
 
 // The same with the scale of the sweep's codes.
@@ -36,41 +26,31 @@ pub struct Checked {
     pub fields: usize,
 }
 
-#[derive(Clone, Copy)]
-pub enum CheckedRead {
-    Value(Checked),
-    Refused(Level3DecodeError),
-}
-
 // Another scheme: 10, after what symbology refuses.
-fn other_scheme(body: &[u8]) -> CheckedRead
-    ensures { checked_of result ≡ then (picture_of body.now) (λ _. refused (kind 10 [])) }
+fn other_scheme(body: &[u8]) -> Result<Checked, Level3DecodeError>
+    ensures { answer result ≡ then (picture_of body.now) (λ _. refused (kind 10 [])) }
 {
-    match symbology::symbology::check(body) {
-        FiguresRead::Refused(e) => CheckedRead::Refused(e),
-        FiguresRead::Value(_) => CheckedRead::Refused(Level3DecodeError::SchemeMismatch),
-    }
+    symbology::symbology::check(body)?;
+    Err(Level3DecodeError::SchemeMismatch)
 }
 
 // The plan over a sweep: 37, 38, 39, 36.
-fn check_plan_on(answer: SweepAnswer, scale: PrecipScale, plan: &[u8], totals: usize) -> CheckedRead
-    ensures { checked_of result ≡ checked_on plan.now totals scale (answer_of answer) }
+#[tactic(auto, unfolding(crate::specs::Fields::checked_on))]
+fn check_plan_on(
+    s: Sweep,
+    scale: PrecipScale,
+    plan: &[u8],
+    totals: usize,
+) -> Result<Checked, Level3DecodeError>
+    ensures { answer result ≡ checked_on plan.now totals scale (accepted s) }
 {
-    let s = match answer {
-        SweepAnswer::Refused(e) => return CheckedRead::Refused(e),
-        SweepAnswer::Accepted(s) => s,
-    };
-    let figures = s.figures;
-    let n = match crate::plan::check_plan(plan, figures.n_radials, figures.n_bins) {
-        PlanCheck::Refused(e) => return CheckedRead::Refused(e),
-        PlanCheck::Passed(n) => n,
-    };
+    let n = crate::plan::check_plan(plan, s.figures.n_radials, s.figures.n_bins)?;
     if totals < n {
-        return CheckedRead::Refused(Level3DecodeError::BufferTooShort {
+        return Err(Level3DecodeError::BufferTooShort {
             buffer: Buffer::Totals,
         });
     }
-    CheckedRead::Value(Checked {
+    Ok(Checked {
         sweep: s,
         scale,
         fields: n,
@@ -88,28 +68,19 @@ pub fn check_totals(
     codes: usize,
     physical: usize,
     totals: usize,
-) -> CheckedRead
-    ensures { checked_of result ≡ checked_in (totals_of scheme file.now clock body.now plan.now
+) -> Result<Checked, Level3DecodeError>
+    ensures { answer result ≡ checked_in (totals_of scheme file.now clock body.now plan.now
         azimuths codes physical totals) }
 {
-    let head = match sweep::plan::read_head(scheme, file, clock) {
-        HeadRead::Value(h) => h,
-        HeadRead::Refused(e) => return CheckedRead::Refused(e),
-    };
-    let scaling = head.scaling;
-    match scaling {
-        Scaling::Precip(scale) => check_plan_on(
-            sweep::sweep::check_sweep(file, clock, scheme, body, azimuths, codes, physical),
-            scale,
-            plan,
-            totals,
-        ),
-        Scaling::Linear(_) => other_scheme(body),
-        Scaling::Legacy {
-            at: _,
-            post_scale: _,
-        } => other_scheme(body),
-        Scaling::Class => other_scheme(body),
+    let head = sweep::plan::read_head(scheme, file, clock)?;
+    match head.scaling {
+        Scaling::Precip(scale) => {
+            let s = sweep::sweep::check_sweep(
+                file, clock, scheme, body, azimuths, codes, physical,
+            )?;
+            check_plan_on(s, scale, plan, totals)
+        }
+        Scaling::Linear(_) | Scaling::Legacy { .. } | Scaling::Class => other_scheme(body),
     }
 }
 
@@ -125,12 +96,12 @@ pub fn read_sweep_with_totals(
     codes: &mut [u16],
     physical: &mut [f32],
     totals: &mut [u64],
-) -> TotalsAnswer
+) -> Result<SweepTotals, Level3DecodeError>
     ensures { TotalsRan scheme file.now clock body.now plan.now
         (totals_buffers azimuths.old codes.old physical.old totals.old)
         (totals_buffers azimuths.new codes.new physical.new totals.new) result }
 {
-    let done = match check_totals(
+    let done = check_totals(
         file,
         clock,
         scheme,
@@ -140,31 +111,21 @@ pub fn read_sweep_with_totals(
         codes.len(),
         physical.len(),
         totals.len(),
-    ) {
-        CheckedRead::Value(k) => k,
-        CheckedRead::Refused(e) => return TotalsAnswer::Refused(e),
-    };
-    match sweep::sweep::read_sweep(file, clock, scheme, body, azimuths, codes, physical) {
-        SweepAnswer::Refused(e) => return TotalsAnswer::Refused(e),
-        SweepAnswer::Accepted(_) => {}
-    }
-    let s = done.sweep;
-    let figures = s.figures;
-    let scale = done.scale;
-    let ceiling = scale.ceiling;
-    let n = done.fields;
+    )?;
+    sweep::sweep::read_sweep(file, clock, scheme, body, azimuths, codes, physical)?;
+    let figures = done.sweep.figures;
     let cells = figures.n_radials * figures.n_bins;
     crate::totals::write_totals(
         plan,
         &codes[..cells],
         figures.n_radials,
         figures.n_bins,
-        scale.floor as u16,
-        ceiling,
-        &mut totals[..n],
+        done.scale.floor as u16,
+        done.scale.ceiling,
+        &mut totals[..done.fields],
     );
-    TotalsAnswer::Accepted(SweepTotals {
-        sweep: s,
-        fields: n,
+    Ok(SweepTotals {
+        sweep: done.sweep,
+        fields: done.fields,
     })
 }

@@ -1,8 +1,9 @@
 // A field plan: its records, and the refusals 37, 38 and 39.
 ghost use Rattle.std.specs.Prelude.{◌≡◌, [], ◌≤◌, length};
+ghost use Rattle.wire.specs.Result.{answer};
 ghost use Rattle.fields.specs.Marks.{again, marked, Halfword};
 ghost use Rattle.fields.specs.Plan.{record_at, size_of, fields_in, strips_in, entries_of, bad, bad_at, leaves, outside_at, repeated_at};
-ghost use Rattle.fields.specs.Plan.{first_of, field_count, plan_of, plan_check_of};
+ghost use Rattle.fields.specs.Plan.{first_of, field_count, plan_of};
 
 use wire::error::Level3DecodeError;
 
@@ -19,18 +20,6 @@ pub enum Record {
         weight: u16,
     },
     Malformed,
-}
-
-#[derive(Clone, Copy)]
-pub enum Found {
-    At(usize),
-    Nothing,
-}
-
-#[derive(Clone, Copy)]
-pub enum PlanCheck {
-    Passed(usize),
-    Refused(Level3DecodeError),
 }
 
 // The record at an offset.
@@ -76,24 +65,8 @@ fn is_bad(r: Record, fields: usize, strips: usize) -> bool
     ensures { result ≡ bad fields strips r }
 {
     match r {
-        Record::Field { number: _ } => false,
-        Record::Strip {
-            radial: _,
-            gate: _,
-            count,
-            weight: _,
-        } => {
-            if fields < 1 {
-                return true;
-            }
-            if count < 1 {
-                return true;
-            }
-            if strips < MAX_STRIPS {
-                return false;
-            }
-            true
-        }
+        Record::Field { .. } => false,
+        Record::Strip { count, .. } => fields < 1 || count < 1 || MAX_STRIPS <= strips,
         Record::Malformed => true,
     }
 }
@@ -102,13 +75,8 @@ pub(crate) fn size_of(r: Record) -> usize
     ensures { result ≡ size_of r }
 {
     match r {
-        Record::Field { number: _ } => 5,
-        Record::Strip {
-            radial: _,
-            gate: _,
-            count: _,
-            weight: _,
-        } => 11,
+        Record::Field { .. } => 5,
+        Record::Strip { .. } => 11,
         Record::Malformed => 0,
     }
 }
@@ -117,14 +85,8 @@ pub(crate) fn fields_in(r: Record) -> usize
     ensures { result ≡ fields_in r }
 {
     match r {
-        Record::Field { number: _ } => 1,
-        Record::Strip {
-            radial: _,
-            gate: _,
-            count: _,
-            weight: _,
-        } => 0,
-        Record::Malformed => 0,
+        Record::Field { .. } => 1,
+        Record::Strip { .. } | Record::Malformed => 0,
     }
 }
 
@@ -132,19 +94,13 @@ fn strips_in(r: Record) -> usize
     ensures { result ≡ strips_in r }
 {
     match r {
-        Record::Field { number: _ } => 0,
-        Record::Strip {
-            radial: _,
-            gate: _,
-            count: _,
-            weight: _,
-        } => 1,
-        Record::Malformed => 0,
+        Record::Strip { .. } => 1,
+        Record::Field { .. } | Record::Malformed => 0,
     }
 }
 
 // The first record of the plan that 37 refuses.
-fn first_bad(plan: &[u8]) -> Found
+fn first_bad(plan: &[u8]) -> Option<usize>
     ensures { result ≡ first_of (bad_at 0 0 (entries_of plan.now)) }
 {
     let mut at: usize = 0;
@@ -153,13 +109,13 @@ fn first_bad(plan: &[u8]) -> Found
     while at < plan.len() {
         let r = record_at(plan, at);
         if is_bad(r, fields, strips) {
-            return Found::At(at);
+            return Some(at);
         }
         at += size_of(r);
         fields += fields_in(r);
         strips += strips_in(r);
     }
-    Found::Nothing
+    None
 }
 
 // 39: a strip that leaves the grid.
@@ -167,42 +123,34 @@ fn leaves_grid(r: Record, radials: usize, bins: usize) -> bool
     ensures { result ≡ leaves radials bins r }
 {
     match r {
-        Record::Field { number: _ } => false,
+        Record::Field { .. } => false,
         Record::Strip {
             radial,
             gate,
             count,
-            weight: _,
-        } => {
-            if radials <= radial as usize {
-                return true;
-            }
-            if bins < gate as usize + count as usize {
-                return true;
-            }
-            false
-        }
+            ..
+        } => radials <= radial as usize || bins < gate as usize + count as usize,
         Record::Malformed => false,
     }
 }
 
 // The first strip of the plan that leaves the grid.
-fn first_outside(plan: &[u8], radials: usize, bins: usize) -> Found
+fn first_outside(plan: &[u8], radials: usize, bins: usize) -> Option<usize>
     ensures { result ≡ first_of (outside_at radials bins (entries_of plan.now)) }
 {
     let mut at: usize = 0;
     while at < plan.len() {
         let r = record_at(plan, at);
         if leaves_grid(r, radials, bins) {
-            return Found::At(at);
+            return Some(at);
         }
         let size = size_of(r);
         if size == 0 {
-            return Found::Nothing;
+            return None;
         }
         at += size;
     }
-    Found::Nothing
+    None
 }
 
 // How many fields the plan has.
@@ -236,18 +184,13 @@ fn mark(r: Record, marks: &mut [u8; 65536]) -> bool
             marks[n] = 1;
             found
         }
-        Record::Strip {
-            radial: _,
-            gate: _,
-            count: _,
-            weight: _,
-        } => false,
+        Record::Strip { .. } => false,
         Record::Malformed => false,
     }
 }
 
 // The first record of the plan that names a number named before.
-fn first_repeat(plan: &[u8]) -> Found
+fn first_repeat(plan: &[u8]) -> Option<usize>
     ensures { result ≡ first_of (repeated_at [] (entries_of plan.now)) }
 {
     let mut marks = [0u8; 65536];
@@ -255,32 +198,29 @@ fn first_repeat(plan: &[u8]) -> Found
     while at < plan.len() {
         let r = record_at(plan, at);
         if mark(r, &mut marks) {
-            return Found::At(at);
+            return Some(at);
         }
         let size = size_of(r);
         if size == 0 {
-            return Found::Nothing;
+            return None;
         }
         at += size;
     }
-    Found::Nothing
+    None
 }
 
 // 37 over the whole plan, then 38 over the whole plan, then 39; or how many fields it has.
-pub fn check_plan(plan: &[u8], radials: usize, bins: usize) -> PlanCheck
-    ensures { plan_check_of result ≡ plan_of plan.now radials bins }
+pub fn check_plan(plan: &[u8], radials: usize, bins: usize) -> Result<usize, Level3DecodeError>
+    ensures { answer result ≡ plan_of plan.now radials bins }
 {
-    match first_bad(plan) {
-        Found::At(offset) => return PlanCheck::Refused(Level3DecodeError::PlanMalformed { offset }),
-        Found::Nothing => {}
+    if let Some(offset) = first_bad(plan) {
+        return Err(Level3DecodeError::PlanMalformed { offset });
     }
-    match first_repeat(plan) {
-        Found::At(offset) => return PlanCheck::Refused(Level3DecodeError::FieldRepeated { offset }),
-        Found::Nothing => {}
+    if let Some(offset) = first_repeat(plan) {
+        return Err(Level3DecodeError::FieldRepeated { offset });
     }
-    match first_outside(plan, radials, bins) {
-        Found::At(offset) => return PlanCheck::Refused(Level3DecodeError::StripOutside { offset }),
-        Found::Nothing => {}
+    if let Some(offset) = first_outside(plan, radials, bins) {
+        return Err(Level3DecodeError::StripOutside { offset });
     }
-    PlanCheck::Passed(count_fields(plan))
+    Ok(count_fields(plan))
 }

@@ -1,25 +1,21 @@
 // The totals of a plan that was accepted, over the codes of a sweep.
-ghost use Rattle.std.specs.Prelude.{◌≡◌, [], map, ◌*◌, ◌≤◌, ◌<◌, length};
+ghost use Rattle.std.specs.Prelude.{◌≡◌, [], map, ◌*◌, ◌≤◌, ◌<◌, length, Some};
 ghost use Rattle.wire.specs.Result.{accepted};
 ghost use Rattle.fields.specs.Plan.{entries_of, entries_from, strip_count, outside_at, plan_of};
 ghost use Rattle.fields.specs.Totals.{counts, top_of, sum, most, own_total, totals, items, grid};
 
 use crate::plan::Record;
-use scale::scaling::Ceiling;
 
 // The highest code that may be valid.
-fn top_of(ceiling: Ceiling) -> u16
+fn top_of(ceiling: Option<u16>) -> u16
     ensures { result ≡ top_of ceiling }
 {
-    match ceiling {
-        Ceiling::At(top) => top,
-        Ceiling::Absent => 65535,
-    }
+    ceiling.unwrap_or(65535)
 }
 
 // What a code counts: from the floor up to the top what it is above the floor, else nothing.
 fn counted(code: u16, floor: u16, top: u16) -> u32
-    ensures { (result ≡ counts floor (Ceiling.At top) code) × ((result ≤ 65535) × (code < 65536)) }
+    ensures { (result ≡ counts floor (Some top) code) × ((result ≤ 65535) × (code < 65536)) }
 {
     if code < floor {
         return 0;
@@ -27,27 +23,24 @@ fn counted(code: u16, floor: u16, top: u16) -> u32
     if top < code {
         return 0;
     }
-    let more = code - floor;
-    more as u32
+    (code - floor) as u32
 }
 
 // What the codes of some cells count together.
-fn cells_total(cells: &[u16], floor: u16, ceiling: Ceiling) -> u32
+fn cells_total(cells: &[u16], floor: u16, ceiling: Option<u16>) -> u32
     requires { length cells.now ≤ 65535 }
     ensures { (result ≡ sum (map (counts floor ceiling) cells.now)) × (result ≤ 65535 * 65535) }
 {
     let top = top_of(ceiling);
     let mut total: u32 = 0;
-    let mut i: usize = 0;
-    while i < cells.len() {
-        total += counted(cells[i], floor, top);
-        i += 1;
+    for code in cells {
+        total += counted(*code, floor, top);
     }
     total
 }
 
 // A strip's total, over the codes of its cells.
-fn strip_total(cells: &[u16], floor: u16, ceiling: Ceiling, weight: u16) -> u64
+fn strip_total(cells: &[u16], floor: u16, ceiling: Option<u16>, weight: u16) -> u64
     requires { length cells.now ≤ 65535 }
     ensures { (result ≡ sum (map (λ code. weight * counts floor ceiling code) cells.now)) × (result ≤ most) }
 {
@@ -63,7 +56,7 @@ fn own_total(
     radials: usize,
     bins: usize,
     floor: u16,
-    ceiling: Ceiling,
+    ceiling: Option<u16>,
 ) -> u64
     requires { (strip_count (entries_from plan.now from) ≤ 4096)
         × ((outside_at radials bins (entries_from plan.now from) ≡ []) × (radials * bins ≤ length codes.now)) }
@@ -73,7 +66,7 @@ fn own_total(
     let mut total: u64 = 0;
     while at < plan.len() {
         match crate::plan::record_at(plan, at) {
-            Record::Field { number: _ } => return total,
+            Record::Field { .. } => return total,
             Record::Strip {
                 radial,
                 gate,
@@ -98,7 +91,7 @@ pub(crate) fn write_totals(
     radials: usize,
     bins: usize,
     floor: u16,
-    ceiling: Ceiling,
+    ceiling: Option<u16>,
     out: &mut [u64],
 )
     requires { (plan_of plan.now radials bins ≡ accepted (length out.old)) × (radials * bins ≤ length codes.now) }

@@ -6,11 +6,10 @@ use contract.Lifetimes.{Lfts}
 use borrow.Fn.World.{ArgsD, ResD}
 use borrow.Fn.Kinds.{ended_of}
 use denote.Triple.Clauses.{AtExit}
-use Rattle.wire.specs.Result.{accepted}
+use Rattle.std.specs.Prelude.{Ok}
+use Rattle.wire.specs.Result.{accepted, answer as answer_of}
 use Rattle.wire.proofs.Results.{one_value, through}
 use Rattle.head.specs.declared.pdb.PdbFields.{PdbFields}
-use Rattle.head.specs.declared.pdb.FieldsRead.TheVariants as FieldsRead
-use Rattle.head.specs.Outcome.{fields_of}
 use Rattle.head.specs.Pdb.{hw_i16, hw_u16, hw_i32, pdb_fields, Coherent}
 use Rattle.head.specs.contracts.pdb.read_pdb_fields.{signature}
 use Rattle.head.proofs.pdb.read_pdb_fields.Kinds as kinds
@@ -31,5 +30,5 @@ coherent file block f e =
 
 -- any call of `read_pdb_fields` that its contract allows
 pub call_fields : (l : Lfts 1) (given : ArgsD signature l) (answer : ResD signature l) (last : AtExit (ended_of 1 kinds.ps kinds.r) l) → reads.Post l given answer last
-    → (f : PdbFields) → answer ≡ FieldsRead.Value f → Coherent f
-call_fields l given answer last allowed f is = coherent given.0.now given.1.0 f (sym allowed ∙ ap fields_of is)
+    → (f : PdbFields) → answer ≡ Ok f → Coherent f
+call_fields l given answer last allowed f is = coherent given.0.now given.1.0 f (sym allowed ∙ ap answer_of is)

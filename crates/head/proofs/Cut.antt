@@ -1,86 +1,81 @@
 -- Laws of the pieces of a text. Assumes nothing.
-use Prim.Native.Nat.{ℕ, suc, ◌+◌, ◌-◌, ◌≤◌, ◌<◌}
+use Prim.Native.Nat.{ℕ, zero, suc, ◌+◌, ◌-◌, ◌≤◌, ◌<◌, suc-le-suc}
 use native.Mathlib.Omega.{arith}
 use mathlib.Core.List.{List, [], ◌∷◌}
 use mathlib.Core.Path.{◌≡◌, refl, sym, ap, ◌∙◌}
-use mathlib.Core.Bool.{Bool, true, false}
-use lib.ListN.{length, get_or, take, drop, length-drop}
+use mathlib.Core.Bool.{Bool, true, false, and-false, false≢true}
+use lib.Dec.{eqb}
+use lib.ListN.{length, take, drop}
 use lib.Seq.{take-length, length-take-le}
+use Rattle.std.specs.Option.{MatchOption, unwrap_or}
+use Rattle.std.specs.Prelude.{Option, Some, None}
 use Rattle.wire.specs.Text.{same}
-use Rattle.wire.proofs.Walks.{Walk, walk_on}
+use Rattle.wire.proofs.Walks.{part_rest}
 use Rattle.head.specs.Header.{separator, cut, longer, first}
 
--- the three cases of `cut`: a separator in front, another byte in front, no room for a separator
-cut_at : (t : List ℕ) → 3 ≤ length t → same (take 3 t) separator ≡ true → cut t ≡ [] ∷ cut (drop 3 t)
-unfolding cut
-cut_at [] h e = absurd (omega arith)
-cut_at (a ∷ []) h e = absurd (omega arith)
-cut_at (a ∷ b ∷ []) h e = absurd (omega arith)
-cut_at (a ∷ b ∷ c ∷ t) h e = simp e
+-- a separator stands in front
+abbrev pub at_separator : List ℕ → Bool
+at_separator t = same separator (take 3 t)
 
-cut_past : (t : List ℕ) → 3 ≤ length t → same (take 3 t) separator ≡ false → cut t ≡ longer (get_or t 0 0) (cut (drop 1 t))
+-- the cases of `cut`: a separator in front, another byte in front, nothing left
+cut_at : (t : List ℕ) → at_separator t ≡ true → (3 ≤ length t) × (cut t ≡ [] ∷ cut (drop 3 t))
 unfolding cut
-cut_past [] h e = absurd (omega arith)
-cut_past (a ∷ []) h e = absurd (omega arith)
-cut_past (a ∷ b ∷ []) h e = absurd (omega arith)
-cut_past (a ∷ b ∷ c ∷ t) h e = simp e
+cut_at [] e = absurd (false≢true e)
+cut_at (a ∷ []) e = absurd (false≢true (sym (and-false (eqb 13 a)) ∙ e))
+cut_at (a ∷ b ∷ []) e = absurd (false≢true (simp (and-false) at e))
+cut_at (a ∷ b ∷ c ∷ t) e = (omega arith, simp e)
 
-cut_short : (t : List ℕ) → length t < 3 → cut t ≡ t ∷ []
+cut_past : (a : ℕ) (t : List ℕ) → at_separator (a ∷ t) ≡ false → cut (a ∷ t) ≡ longer a (cut t)
 unfolding cut
-cut_short [] h = refl
-cut_short (a ∷ []) h = refl
-cut_short (a ∷ b ∷ []) h = refl
-cut_short (a ∷ b ∷ c ∷ t) h = absurd (omega arith)
+cut_past a [] e = refl
+cut_past a (b ∷ []) e = refl
+cut_past a (b ∷ c ∷ t) e = simp e
 
 -- a text is its last piece, or a piece, a separator and the pieces of what follows
 pub data Pieces (t : List ℕ) : Type 0 where
   last : cut t ≡ t ∷ [] → Pieces t
   more : (n : ℕ) → n + 3 ≤ length t → cut t ≡ take n t ∷ cut (drop (n + 3) t) → Pieces t
 
+cut_nothing : cut [] ≡ [] ∷ []
+unfolding cut
+cut_nothing = refl
+
 pub pieces : (t : List ℕ) → Pieces t
-pieces [] = last (cut_short [] (omega arith))
-pieces (a ∷ []) = last (cut_short _ (omega arith))
-pieces (a ∷ b ∷ []) = last (cut_short _ (omega arith))
-pieces (a ∷ b ∷ c ∷ t) = go (same (a ∷ b ∷ c ∷ []) separator) refl (pieces (b ∷ c ∷ t))
+pieces [] = last cut_nothing
+pieces (a ∷ t) = go (at_separator (a ∷ t)) refl (pieces t)
   where
-    go : (x : Bool) → same (a ∷ b ∷ c ∷ []) separator ≡ x → Pieces (b ∷ c ∷ t) → Pieces (a ∷ b ∷ c ∷ t)
-    go true e r = more 0 (omega arith) (cut_at (a ∷ b ∷ c ∷ t) (omega arith) e)
-    go false e (last h) = last (cut_past (a ∷ b ∷ c ∷ t) (omega arith) e ∙ ap (longer a) h)
+    go : (x : Bool) → at_separator (a ∷ t) ≡ x → Pieces t → Pieces (a ∷ t)
+    go true e r = let s = cut_at (a ∷ t) e in more 0 s.0 s.1
+    go false e (last h) = last (cut_past a t e ∙ ap (longer a) h)
     go false e (more n k h) =
         let q : suc (n + 3) ≡ suc n + 3 = omega arith in
-        more (suc n) (omega arith)
-        (cut_past (a ∷ b ∷ c ∷ t) (omega arith) e ∙ ap (longer a) h ∙ ap (λ m. (a ∷ take n (b ∷ c ∷ t)) ∷ cut (drop m (a ∷ b ∷ c ∷ t))) q)
+        more (suc n) (omega arith) (cut_past a t e ∙ ap (longer a) h ∙ ap (λ m. (a ∷ take n t) ∷ cut (drop m (a ∷ t))) q)
 
--- the length of the first piece, by a walk
-abbrev pub span : ℕ → List ℕ → ℕ
-span i t = i + length (first (cut t))
-
+-- the length of the first piece: how many places stand before the first separator
 first_longer : (a : ℕ) (ps : List (List ℕ)) → length (first (longer a ps)) ≡ suc (length (first ps))
 first_longer a [] = refl
 first_longer a (p ∷ ps) = refl
 
-module _ {s : List ℕ} {i : ℕ} (w : Walk span s i) (e : ℕ) (end : e ≡ i + 3) where
-  room : 3 ≤ length s - i → 3 ≤ length (drop i s)
-  room h = omega (arith, length-drop i s)
+first_length : (s : List ℕ) (n : ℕ) → n ≤ length s → ((k : ℕ) → k < n → at_separator (drop k s) ≡ false)
+    → (n < length s → at_separator (drop n s) ≡ true) → n ≡ length (first (cut s))
+first_length [] zero h before here = sym (ap (λ ps. length (first ps)) cut_nothing)
+first_length (a ∷ s) zero h before here = sym (ap (λ ps. length (first ps)) (cut_at (a ∷ s) (here (omega arith))).1)
+first_length [] (suc n) h before here = absurd (omega arith)
+first_length (a ∷ s) (suc n) h before here =
+    ap suc (first_length s n (omega arith) (λ k l. before (suc k) (suc-le-suc l)) (λ l. here (suc-le-suc l)))
+    ∙ sym (ap (λ ps. length (first ps)) (cut_past a s (before 0 (omega arith))) ∙ first_longer a (cut s))
 
-  part : take (e - i) (drop i s) ≡ take 3 (drop i s)
-  part = let q : e - i ≡ 3 = omega arith in ap (λ n. take n (drop i s)) q
+-- the first place at which a separator stands, or the end
+abbrev pub separated : List ℕ → ℕ → Bool
+separated s k = at_separator (take (length s - k) (drop k s))
 
-  pub span_hit : 3 ≤ length s - i → same (take (e - i) (drop i s)) separator ≡ true → i ≡ length (first (cut s))
-  span_hit h t =
-      let q : length (first (cut (drop i s))) ≡ 0 = ap (λ ps. length (first ps)) (cut_at (drop i s) (room h) (ap (λ l. same l separator) (sym part) ∙ t)) in
-      omega (arith, w.left)
-
-  pub span_next : 3 ≤ length s - i → same (take (e - i) (drop i s)) separator ≡ false → Walk span s (i + 1)
-  span_next h t =
-      let q : length (first (cut (drop i s))) ≡ suc (length (first (cut (drop 1 (drop i s))))) =
-      ap (λ ps. length (first ps)) (cut_past (drop i s) (room h) (ap (λ l. same l separator) (sym part) ∙ t)) ∙ first_longer (get_or (drop i s) 0 0) (cut (drop 1 (drop i s))) in
-      walk_on w 1 (omega arith) (omega arith)
-
-pub span_end : {s : List ℕ} {i : ℕ} → Walk span s i → length s - i < 3 → length s ≡ length (first (cut s))
-span_end {s} {i} w h =
-    let q : length (first (cut (drop i s))) ≡ length (drop i s) = ap (λ ps. length (first ps)) (cut_short (drop i s) (omega (arith, length-drop i s))) in
-    omega (arith, w.left, w.within, length-drop i s)
+pub first_separator : (s : List ℕ) (r : Option ℕ)
+    → MatchOption r ((k : ℕ) → 0 ≤ k → k < length s → separated s k ≡ false)
+    (λ i. (0 ≤ i) × (i < length s) × (separated s i ≡ true) × ((k : ℕ) → 0 ≤ k → k < i → separated s k ≡ false))
+    → unwrap_or r (length s) ≡ length (first (cut s))
+first_separator s None h = first_length s (length s) (omega arith) (λ k l. simp part_rest at (h k (omega arith) l)) (λ l. absurd (omega arith))
+first_separator s (Some i) h =
+    first_length s i (omega (arith, h.1)) (λ k l. simp part_rest at (h.3 k (omega arith) l)) (λ _. simp part_rest at h.2)
 
 -- n is the length of the first piece: what the pieces are
 pub record Piece (t : List ℕ) (n : ℕ) : Type 0 where

@@ -7,11 +7,11 @@ use lib.IntN.{pos, negsuc}
 use lib.Ieee.{binary64, of_bits, of_int, mul, div}
 use Rattle.wire.specs.Refusal.{kind, nat, whole}
 use Rattle.wire.specs.Result.{accepted, refused}
-use Rattle.wire.specs.Text.{member, same, all, leading, trim_front, trim_end}
+use Rattle.wire.specs.Text.{leading, trim_front, trim_end}
 use Rattle.wire.specs.Bytes.{u16_at, u32_at, i16_at, i32_at, signed}
 use Rattle.wire.specs.Float.{f64}
 use Rattle.wire.specs.Products.{codes, known}
-use Rattle.head.specs.Header.{blank, alphanumeric, cut, separator, first_token, token, product, site, first_of, header_at, message_header, scan_time}
+use Rattle.head.specs.Header.{cut, separator, first_token, token, product, site, first_of, header_at, message_header, scan_time}
 use Rattle.head.specs.Pdb.{field_at, hw_i16, hw_u16, hw_i32, pdb_fields}
 
 -- exactly 86,400 ahead passes, one more does not
@@ -63,7 +63,7 @@ abbrev two_lines : List ℕ
 two_lines = (83 ∷ 68 ∷ 85 ∷ 83 ∷ 53 ∷ 51 ∷ 32 ∷ 75 ∷ []) ++ separator ++ (32 ∷ 9 ∷ []) ++ n0blot ++ (12 ∷ 10 ∷ []) ++ separator
 
 pub second_line : token two_lines ≡ accepted 13
-unfolding token cut first_token same blank alphanumeric member all leading trim_front trim_end
+unfolding token cut first_token leading trim_front trim_end
 second_line = refl
 
 -- N0B, LOT
@@ -75,24 +75,24 @@ its_site = refl
 
 -- CR CR CR LF: the separator is at the second CR, and the first is trimmed
 pub three_crs : cut (65 ∷ 13 ∷ 13 ∷ 13 ∷ 10 ∷ 66 ∷ []) ≡ (65 ∷ 13 ∷ []) ∷ (66 ∷ []) ∷ []
-unfolding cut same
+unfolding cut
 three_crs = refl
 
 pub three_crs_token : token (n0blot ++ (13 ∷ 13 ∷ 13 ∷ 10 ∷ [])) ≡ accepted 0
-unfolding token cut first_token same blank alphanumeric member all leading trim_front trim_end
+unfolding token cut first_token leading trim_front trim_end
 three_crs_token = refl
 
 -- seven alphanumerics are no token, unless byte 128 cuts them to six; and byte 128 cuts six to five
 pub seven : token (replicate 121 32 ++ n0blot ++ (88 ∷ [])) ≡ refused (kind 1 [])
-unfolding token cut first_token same blank alphanumeric member all leading trim_front trim_end
+unfolding token cut first_token leading trim_front trim_end
 seven = refl
 
 pub seven_cut : token (replicate 122 32 ++ n0blot ++ (88 ∷ [])) ≡ accepted 122
-unfolding token cut first_token same blank alphanumeric member all leading trim_front trim_end
+unfolding token cut first_token leading trim_front trim_end
 seven_cut = refl
 
 pub six_cut : token (replicate 123 32 ++ n0blot) ≡ refused (kind 1 [])
-unfolding token cut first_token same blank alphanumeric member all leading trim_front trim_end
+unfolding token cut first_token leading trim_front trim_end
 six_cut = refl
 
 -- a header at offset 0 is found in 21 bytes and not in 20
@@ -101,7 +101,7 @@ unfolding message_header first_of
 twenty = refl
 
 pub twenty_one : message_header (0 ∷ 19 ∷ replicate 16 0 ++ (255 ∷ 255 ∷ 0 ∷ [])) ≡ accepted 0
-unfolding message_header first_of header_at known codes member i16_at u16_at signed
+unfolding message_header first_of header_at known codes i16_at u16_at signed
 twenty_one = refl
 
 -- field 0, the last that fits, and a field past the end

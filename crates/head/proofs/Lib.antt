@@ -1,6 +1,5 @@
 pub mod Cut
 pub mod Token
-pub mod Time
 pub mod Search
 pub mod Fields
 pub mod Coherence

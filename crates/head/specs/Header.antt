@@ -1,11 +1,12 @@
 -- header.rs. The AWIPS token: "first 128 bytes, cut at CR CR LF left to right, space, tab, LF, FF and CR trimmed at both ends, first
 -- piece of six alphanumerics, as 3 + 3". The message header: "offsets from 0 below min(length, 128) - 20, first known code with -1
 -- eighteen bytes on". The scan time: "(days - 1) × 86,400 + seconds; more than 86,400 ahead of the clock is refused".
-use Rattle.std.specs.Prelude.{ℕ, zero, suc, ◌+◌, ◌*◌, ◌-◌, ◌^◌, min, List, [], ◌∷◌, Bool, false, cond, ◌&&◌, ◌||◌, length, take, eqb, leb, ltb, ℤ, pos, negsuc}
+use Rattle.std.specs.Prelude.{ℕ, zero, suc, ◌+◌, ◌*◌, ◌-◌, ◌^◌, min, List, [], ◌∷◌, Bool, false, cond, ◌&&◌, ◌||◌, length, take, eqb, ltb, ℤ, pos, negsuc, Option, Some, None}
+use Rattle.std.specs.Char.{is_ascii_whitespace, is_ascii_alphanumeric}
 use Rattle.std.proofs.Math.Seq.{slice}
 use Rattle.wire.specs.Refusal.{kind, nat, whole}
 use Rattle.wire.specs.Result.{Result, accepted, refused, refuse}
-use Rattle.wire.specs.Text.{member, same, all, trim_front, trim_end, leading}
+use Rattle.wire.specs.Text.{same, all, trim_front, trim_end, leading}
 use Rattle.wire.specs.Bytes.{i16_at}
 use Rattle.wire.specs.Products.{known}
 
@@ -14,15 +15,12 @@ abbrev pub separator : List ℕ
 separator = 13 ∷ 13 ∷ 10 ∷ []
 
 -- space, tab, LF, FF, CR
-unfoldable pub blank : ℕ → Bool
-blank b = member b (32 ∷ 9 ∷ 10 ∷ 12 ∷ 13 ∷ [])
-
-abbrev pub between : ℕ → ℕ → ℕ → Bool
-between low high b = leb low b && leb b high
+abbrev pub blank : ℕ → Bool
+blank = is_ascii_whitespace
 
 -- ASCII: 0 to 9, A to Z, a to z
-unfoldable pub alphanumeric : ℕ → Bool
-alphanumeric b = between 48 57 b || between 65 90 b || between 97 122 b
+abbrev pub alphanumeric : ℕ → Bool
+alphanumeric = is_ascii_alphanumeric
 
 -- a byte more at the front of the first piece
 abbrev pub longer : ℕ → List (List ℕ) → List (List ℕ)
@@ -34,7 +32,7 @@ unfoldable pub cut : List ℕ → List (List ℕ)
 cut [] = [] ∷ []
 cut (a ∷ []) = (a ∷ []) ∷ []
 cut (a ∷ b ∷ []) = (a ∷ b ∷ []) ∷ []
-cut (a ∷ b ∷ c ∷ s) = cond (same (a ∷ b ∷ c ∷ []) separator) ([] ∷ cut s) (longer a (cut (b ∷ c ∷ s)))
+cut (a ∷ b ∷ c ∷ s) = cond (same separator (a ∷ b ∷ c ∷ [])) ([] ∷ cut s) (longer a (cut (b ∷ c ∷ s)))
 
 -- the first piece
 abbrev pub first : List (List ℕ) → List ℕ
@@ -62,6 +60,10 @@ product file k = slice k (k + 3) file
 
 abbrev pub site : List ℕ → ℕ → List ℕ
 site file k = slice (k + 3) (k + 6) file
+
+-- a piece's token, by its place in the piece
+unfoldable pub token_in : List ℕ → Option ℕ
+token_in p = cond (is_token (trimmed p)) (Some (leading blank p)) None
 
 -- the first of `count` numbers from n on that passes the test
 unfoldable pub first_of : (ℕ → Bool) → ℕ → ℕ → Result ℕ

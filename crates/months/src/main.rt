@@ -8,13 +8,11 @@ use std::io::{BufWriter, Write};
 fn main(rt: HostRuntime) -> io::Result<()> {
     let mut out = BufWriter::new(rt.alloc(), io::writer(&rt))?;
     let mut first: u64 = 1;
-    let mut k: u16 = 0;
-    while k < 2154 {
+    for k in 0u16..2154 {
         writeln!(out, "{first}")?;
         let year = 1970 + k / 12;
         let month = (1 + k % 12) as u8;
         first += calendar::month::month_length(year, month) as u64;
-        k += 1;
     }
     out.flush()
 }

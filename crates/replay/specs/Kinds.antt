@@ -3,7 +3,7 @@ use Rattle.std.specs.Prelude.{ℕ, cond, not, ◌||◌, List, [], ◌∷◌, len
 use Rattle.wire.specs.Text.{same}
 
 -- a field's kind, i16, u16, i32 or pair in ASCII; 4 of any other word
-unfoldable pub field_kind : List ℕ → ℕ
+abbrev pub field_kind : List ℕ → ℕ
 field_kind word =
     cond (same word (105 ∷ 49 ∷ 54 ∷ [])) 0
     (cond (same word (117 ∷ 49 ∷ 54 ∷ [])) 1
@@ -12,7 +12,7 @@ field_kind word =
     4)))
 
 -- a scheme, H, F or C, P: or L: and eight bytes; 5 of any other word
-unfoldable pub scheme_number : List ℕ → ℕ
+abbrev pub scheme_number : List ℕ → ℕ
 scheme_number word =
     cond (same word (72 ∷ [])) 0
     (cond (same word (70 ∷ [])) 1
@@ -23,11 +23,11 @@ scheme_number word =
     5)))))
 
 -- the eight bytes of P: or L:
-unfoldable pub parameter_of : List ℕ → List ℕ
+abbrev pub parameter_of : List ℕ → List ℕ
 parameter_of word = cond (length word == 10) (drop 2 word) []
 
 -- an XDR item, i, u, f, s, a or l; 6 of any other byte
-unfoldable pub item_number : ℕ → ℕ
+abbrev pub item_number : ℕ → ℕ
 item_number b =
     cond (b == 105) 0
     (cond (b == 117) 1

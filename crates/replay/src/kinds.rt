@@ -1,13 +1,33 @@
-// The kinds of cases, and the library's numbers for what a case's words name.
-ghost use Rattle.std.specs.Prelude.{◌≡◌};
+// The kinds of cases, and what a case's words name in the library.
+ghost use Rattle.std.specs.Prelude.{◌≡◌, ◌≤◌, Some};
 ghost use Rattle.replay.specs.Kinds.{field_kind, scheme_number, parameter_of, item_number};
+ghost use Rattle.replay.specs.Numbers.{number_of_kind, number_of_scheme, number_of_item};
 
+// A reading of a sweep: without gaps, with them, of two receptions, with the totals of a field plan.
 #[derive(Clone, Copy)]
-pub enum Kind {
-    Sweep,
+pub enum Reading {
+    Plain,
     Gaps,
     Merge,
     Plan,
+}
+
+impl Reading {
+    // The word of the file; that of the body is the next, and then that of the second body or of the plan. The lengths of the buffers stand
+    // before it.
+    pub fn file_word(self) -> usize
+        ensures { result ≤ 8 }
+    {
+        match self {
+            Reading::Plain => 7,
+            Reading::Gaps | Reading::Merge | Reading::Plan => 8,
+        }
+    }
+}
+
+#[derive(Clone, Copy)]
+pub enum Kind {
+    Sweep(Reading),
     Symbology,
     Export,
     Token,
@@ -26,87 +46,210 @@ pub enum Kind {
     Known,
     Codes,
     Xdr,
-    Unknown,
 }
 
-// The number of a field's kind in the library; 4 of any other word.
-pub fn field_kind(word: &[u8]) -> u32
-    ensures { result ≡ field_kind word.now }
-{
-    if wire::text::same(word, b"i16") {
-        return 0;
-    }
-    if wire::text::same(word, b"u16") {
-        return 1;
-    }
-    if wire::text::same(word, b"i32") {
-        return 2;
-    }
-    if wire::text::same(word, b"pair") {
-        return 3;
-    }
-    4
+// What a word of a case has to be.
+#[derive(Clone, Copy)]
+pub enum Form {
+    Size,
+    Days,
+    Seconds,
+    Code,
+    Clock,
+    Bytes,
+    // 32 bytes.
+    Thresholds,
+    Float,
+    Scheme,
+    FieldKind,
+    Items,
+    Ends,
+    Rates,
 }
 
-// The number of a scheme in the library; 5 of any other word. P and L have a parameter behind a colon.
-pub fn scheme(word: &[u8]) -> u32
-    ensures { result ≡ scheme_number word.now }
-{
-    if wire::text::same(word, b"H") {
-        return 0;
+impl Kind {
+    // The kind that a case's first word names.
+    pub fn of(word: &[u8]) -> Option<Kind> {
+        Some(match word {
+            b"sweep" => Kind::Sweep(Reading::Plain),
+            b"gaps" => Kind::Sweep(Reading::Gaps),
+            b"merge" => Kind::Sweep(Reading::Merge),
+            b"plan" => Kind::Sweep(Reading::Plan),
+            b"sym" => Kind::Symbology,
+            b"export" => Kind::Export,
+            b"token" => Kind::Token,
+            b"mhb" => Kind::Header,
+            b"time" => Kind::Time,
+            b"date" => Kind::Date,
+            b"field" => Kind::Field,
+            b"pdb" => Kind::Block,
+            b"lin" => Kind::Linear,
+            b"flt" => Kind::Float,
+            b"thr" => Kind::Threshold,
+            b"prc" => Kind::Precip,
+            b"charge" => Kind::Charge,
+            b"leg" => Kind::Legacy,
+            b"trail" => Kind::Trailing,
+            b"known" => Kind::Known,
+            b"codes" => Kind::Codes,
+            b"xdr" => Kind::Xdr,
+            _ => return None,
+        })
     }
-    if wire::text::same(word, b"F") {
-        return 1;
+
+    // What the words behind the case's name have to be.
+    pub fn form(self) -> &'static [Form] {
+        match self {
+            Kind::Sweep(Reading::Plain) => &[
+                Form::Clock,
+                Form::Scheme,
+                Form::Size,
+                Form::Size,
+                Form::Size,
+                Form::Bytes,
+                Form::Bytes,
+            ],
+            Kind::Sweep(Reading::Gaps) => &[
+                Form::Clock,
+                Form::Scheme,
+                Form::Size,
+                Form::Size,
+                Form::Size,
+                Form::Size,
+                Form::Bytes,
+                Form::Bytes,
+            ],
+            Kind::Sweep(Reading::Merge) | Kind::Sweep(Reading::Plan) => &[
+                Form::Clock,
+                Form::Scheme,
+                Form::Size,
+                Form::Size,
+                Form::Size,
+                Form::Size,
+                Form::Bytes,
+                Form::Bytes,
+                Form::Bytes,
+            ],
+            Kind::Symbology | Kind::Token | Kind::Header | Kind::Trailing => &[Form::Bytes],
+            Kind::Export => &[Form::Size, Form::Bytes],
+            Kind::Time => &[Form::Clock, Form::Days, Form::Seconds],
+            Kind::Date => &[Form::Days],
+            Kind::Field => &[Form::Bytes, Form::Size, Form::Size, Form::FieldKind],
+            Kind::Block | Kind::Linear | Kind::Float | Kind::Threshold => {
+                &[Form::Bytes, Form::Size]
+            }
+            Kind::Precip => &[Form::Bytes, Form::Size, Form::Float],
+            Kind::Charge => &[Form::Size, Form::Ends, Form::Rates],
+            Kind::Legacy => &[Form::Thresholds, Form::Float],
+            Kind::Known => &[Form::Code],
+            Kind::Codes => &[],
+            Kind::Xdr => &[Form::Items, Form::Bytes],
+        }
     }
-    if wire::text::same(word, b"C") {
-        return 4;
+}
+
+// A field's kind.
+#[derive(Clone, Copy)]
+pub enum FieldKind {
+    I16,
+    U16,
+    I32,
+    Pair,
+}
+
+impl FieldKind {
+    pub fn of(word: &[u8]) -> Option<FieldKind>
+        ensures { number_of_kind result ≡ field_kind word.now }
+    {
+        match word {
+            b"i16" => Some(FieldKind::I16),
+            b"u16" => Some(FieldKind::U16),
+            b"i32" => Some(FieldKind::I32),
+            b"pair" => Some(FieldKind::Pair),
+            _ => None,
+        }
     }
-    if word.len() != 10 {
-        return 5;
+}
+
+impl From<FieldKind> for u32 {
+    ghost from_gives = { λ kind n. n ≡ number_of_kind (Some kind) };
+
+    fn from(kind: FieldKind) -> u32 {
+        kind as u32
     }
-    if word[1] != b':' {
-        return 5;
+}
+
+// A scheme. Precipitation and Legacy have a parameter behind a colon.
+#[derive(Clone, Copy)]
+pub enum Scheme {
+    Halfword,
+    Float,
+    Precipitation,
+    Legacy,
+    Class,
+}
+
+impl Scheme {
+    pub fn of(word: &[u8]) -> Option<Scheme>
+        ensures { number_of_scheme result ≡ scheme_number word.now }
+    {
+        match word {
+            b"H" => Some(Scheme::Halfword),
+            b"F" => Some(Scheme::Float),
+            b"C" => Some(Scheme::Class),
+            [b'P', b':', _, _, _, _, _, _, _, _] => Some(Scheme::Precipitation),
+            [b'L', b':', _, _, _, _, _, _, _, _] => Some(Scheme::Legacy),
+            _ => None,
+        }
     }
-    if word[0] == b'P' {
-        return 2;
+}
+
+impl From<Scheme> for u32 {
+    ghost from_gives = { λ scheme n. n ≡ number_of_scheme (Some scheme) };
+
+    fn from(scheme: Scheme) -> u32 {
+        scheme as u32
     }
-    if word[0] == b'L' {
-        return 3;
-    }
-    5
 }
 
 // The word of a scheme's parameter; an empty one where it has none.
 pub fn parameter(word: &[u8]) -> &[u8]
     ensures { result.now ≡ parameter_of word.now }
 {
-    if word.len() == 10 {
-        return &word[2..];
-    }
-    &word[..0]
+    if word.len() == 10 { &word[2..] } else { &[] }
 }
 
-// The number of an XDR item in the library; 6 of any other letter.
-pub fn item(letter: u8) -> u32
-    ensures { result ≡ item_number letter }
-{
-    if letter == b'i' {
-        return 0;
+// An XDR item.
+#[derive(Clone, Copy)]
+pub enum Item {
+    Int,
+    Uint,
+    Float,
+    String,
+    Array,
+    List,
+}
+
+impl Item {
+    pub fn of(letter: u8) -> Option<Item>
+        ensures { number_of_item result ≡ item_number letter }
+    {
+        match letter {
+            b'i' => Some(Item::Int),
+            b'u' => Some(Item::Uint),
+            b'f' => Some(Item::Float),
+            b's' => Some(Item::String),
+            b'a' => Some(Item::Array),
+            b'l' => Some(Item::List),
+            _ => None,
+        }
     }
-    if letter == b'u' {
-        return 1;
+}
+
+impl From<Item> for u32 {
+    ghost from_gives = { λ item n. n ≡ number_of_item (Some item) };
+
+    fn from(item: Item) -> u32 {
+        item as u32
     }
-    if letter == b'f' {
-        return 2;
-    }
-    if letter == b's' {
-        return 3;
-    }
-    if letter == b'a' {
-        return 4;
-    }
-    if letter == b'l' {
-        return 5;
-    }
-    6
 }

@@ -1,161 +1,133 @@
-// The buffers that are lent to the library: filled with a pattern, read, and looked at afterwards.
-ghost use Rattle.std.specs.Prelude.{◌≡◌, length, replicate, negsuc, slice_index, slice_index_or};
-ghost use Rattle.wire.specs.Float.{f64, whole32, whole64};
+// What is lent to the library: filled with a pattern, read, and looked at afterwards.
+ghost use Rattle.std.specs.Prelude.{◌≡◌, IfOk, negsuc, replicate, slice_index};
+ghost use Rattle.wire.specs.Float.{whole32, whole64};
+ghost use Rattle.replay.specs.Report.{cells_of};
 
-use crate::print::Text;
+use std::alloc::{AllocError, Global};
+use std::io;
+use std::io::Write;
 
-pub fn azimuths() -> [f64; 4096]
-    ensures value { result ≡ replicate 4096 (whole64 (negsuc 7776)) }
-    ensures value_2 { 4096 ≡ length result }
-{
-    [-7777.0f64; 4096]
+// The most places of a buffer that is lent.
+pub const ROOM: usize = 4096;
+
+// A type whose buffers are filled with a pattern.
+pub trait Pattern: Copy + PartialEq {
+    ghost pattern: { Self };
+
+    fn pattern() -> Self
+        ensures { result ≡ pattern };
+
+    // A buffer is filled by clones.
+    ghost kept: { (x : Self) → Self.is_clone pattern x → x ≡ pattern };
 }
 
-pub fn codes() -> [u16; 4096]
-    ensures value { result ≡ replicate 4096 42435 }
-    ensures value_2 { 4096 ≡ length result }
-{
-    [0xa5c3u16; 4096]
-}
+impl Pattern for u8 {
+    ghost pattern = { 165 };
 
-pub fn physical() -> [f32; 4096]
-    ensures value { result ≡ replicate 4096 (whole32 (negsuc 7776)) }
-    ensures value_2 { 4096 ≡ length result }
-{
-    [-7777.0f32; 4096]
-}
+    ghost kept = { λ x e. e };
 
-pub fn marks() -> [u8; 4096]
-    ensures value { result ≡ replicate 4096 165 }
-    ensures value_2 { 4096 ≡ length result }
-{
-    [0xa5u8; 4096]
-}
-
-pub fn output() -> [u8; 4096]
-    ensures value { result ≡ replicate 4096 165 }
-    ensures value_2 { 4096 ≡ length result }
-{
-    marks()
-}
-
-pub fn totals() -> [u64; 4096]
-    ensures value { result ≡ replicate 4096 11936128518282651045 }
-    ensures value_2 { 4096 ≡ length result }
-{
-    [0xa5a5_a5a5_a5a5_a5a5u64; 4096]
-}
-
-// The report, with places behind it that must be kept.
-pub fn ints() -> [u64; 32]
-    ensures { result ≡ replicate 32 11936128518282651045 }
-{
-    [0xa5a5_a5a5_a5a5_a5a5u64; 32]
-}
-
-pub fn floats() -> [f64; 16]
-    ensures { result ≡ replicate 16 (whole64 (negsuc 7776)) }
-{
-    [-7777.0f64; 16]
-}
-
-pub fn int(ints: &[u64], i: usize) -> u64
-    ensures { result ≡ slice_index ints.now i }
-{
-    if i < ints.len() { ints[i] } else { 0 }
-}
-
-pub fn float(floats: &[f64], i: usize) -> f64
-    ensures { result ≡ slice_index_or floats.now i (f64 0 1) }
-{
-    if i < floats.len() { floats[i] } else { 0.0f64 }
-}
-
-fn say_touched(out: &mut Text, name: &[u8]) {
-    crate::print::say(out, b" KEPT ");
-    crate::print::say(out, name);
-}
-
-// Each of these says where a place from `from` on was written.
-pub fn check_azimuths(out: &mut Text, azimuths: &[f64], from: usize) {
-    let mut i = from;
-    while i < azimuths.len() {
-        if azimuths[i] != -7777.0f64 {
-            say_touched(out, b"azimuths");
-            return;
-        }
-        i += 1;
+    fn pattern() -> u8 {
+        0xa5
     }
 }
 
-pub fn check_codes(out: &mut Text, codes: &[u16], from: usize) {
-    let mut i = from;
-    while i < codes.len() {
-        if codes[i] != 0xa5c3u16 {
-            say_touched(out, b"codes");
-            return;
-        }
-        i += 1;
+impl Pattern for u16 {
+    ghost pattern = { 42435 };
+
+    ghost kept = { λ x e. e };
+
+    fn pattern() -> u16 {
+        0xa5c3
     }
 }
 
-pub fn check_physical(out: &mut Text, physical: &[f32], from: usize) {
-    let mut i = from;
-    while i < physical.len() {
-        if physical[i] != -7777.0f32 {
-            say_touched(out, b"physical");
-            return;
-        }
-        i += 1;
+impl Pattern for u64 {
+    ghost pattern = { 11936128518282651045 };
+
+    ghost kept = { λ x e. e };
+
+    fn pattern() -> u64 {
+        0xa5a5_a5a5_a5a5_a5a5
     }
 }
 
-fn check_bytes(out: &mut Text, bytes: &[u8], from: usize, name: &[u8]) {
-    let mut i = from;
-    while i < bytes.len() {
-        if bytes[i] != 0xa5u8 {
-            say_touched(out, name);
-            return;
-        }
-        i += 1;
+impl Pattern for f32 {
+    ghost pattern = { whole32 (negsuc 7776) };
+
+    ghost kept = { λ x e. e };
+
+    fn pattern() -> f32 {
+        -7777.0
     }
 }
 
-pub fn check_marks(out: &mut Text, marks: &[u8], from: usize) {
-    check_bytes(out, marks, from, b"marks");
-}
+impl Pattern for f64 {
+    ghost pattern = { whole64 (negsuc 7776) };
 
-pub fn check_output(out: &mut Text, output: &[u8], from: usize) {
-    check_bytes(out, output, from, b"output");
-}
+    ghost kept = { λ x e. e };
 
-fn check_words(out: &mut Text, words: &[u64], from: usize, name: &[u8]) {
-    let mut i = from;
-    while i < words.len() {
-        if words[i] != 0xa5a5_a5a5_a5a5_a5a5u64 {
-            say_touched(out, name);
-            return;
-        }
-        i += 1;
+    fn pattern() -> f64 {
+        -7777.0
     }
 }
 
-pub fn check_totals(out: &mut Text, totals: &[u64], from: usize) {
-    check_words(out, totals, from, b"totals");
+pub fn filled<T: Pattern>(alloc: Global, n: usize) -> Result<Vec<T>, AllocError>
+    ensures { IfOk result (λ v. v.items ≡ replicate n T.pattern) }
+{
+    vec![in alloc; T::pattern(); n]
 }
 
-fn check_floats(out: &mut Text, floats: &[f64]) {
-    let mut i = 8usize;
-    while i < floats.len() {
-        if floats[i] != -7777.0f64 {
-            say_touched(out, b"floats");
-            return;
-        }
-        i += 1;
+// Says where a place from `from` on was written.
+pub fn check<T: Pattern>(
+    out: &mut Vec<u8>,
+    name: &str,
+    places: &[T],
+    from: usize,
+) -> io::Result<()> {
+    if places.iter().skip(from).any(|x| *x != T::pattern()) {
+        write!(out, " KEPT {name}")?;
     }
+    Ok(())
 }
 
-pub fn check_report(out: &mut Text, ints: &[u64], floats: &[f64]) {
-    check_words(out, ints, 24, b"ints");
-    check_floats(out, floats);
+// The report. The library keeps the places of `ints` from 24 on, and those of `floats` from 8 on.
+#[derive(Drop)]
+pub struct Report {
+    pub ints: [u64; 32],
+    pub floats: [f64; 16],
+}
+
+impl Report {
+    pub fn new() -> Report
+        ensures ints { result.ints ≡ replicate 32 11936128518282651045 }
+        ensures floats { result.floats ≡ replicate 16 (whole64 (negsuc 7776)) }
+    {
+        Report {
+            ints: [u64::pattern(); 32],
+            floats: [f64::pattern(); 16],
+        }
+    }
+
+    pub fn radials(&self) -> usize
+        ensures { result ≡ slice_index self.now.ints 7 }
+    {
+        self.ints[7] as usize
+    }
+
+    // The cells of a picture, for which the buffers have room.
+    pub fn cells(&self) -> usize
+        ensures { result ≡ cells_of self.now.ints }
+    {
+        let radials = self.ints[7];
+        let bins = self.ints[8];
+        if radials.max(bins) > 4096 {
+            return 0;
+        }
+        (radials * bins) as usize
+    }
+
+    pub fn check(&self, out: &mut Vec<u8>) -> io::Result<()> {
+        check(out, "ints", &self.ints, 24)?;
+        check(out, "floats", &self.floats, 8)
+    }
 }

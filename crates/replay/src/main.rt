@@ -3,9 +3,11 @@
 #![tactic(auto)]
 
 use std::io;
+use std::io::BufReader;
 
 mod answer;
 mod body;
+mod case;
 mod charges;
 mod hex;
 mod kinds;
@@ -21,9 +23,6 @@ mod words;
 mod xdr_items;
 
 fn main(rt: HostRuntime) -> io::Result<()> {
-    let mut out = print::Text::new(rt.alloc());
-    let mut input = rt.reader();
-    let mut buf = [0u8; 65536];
-    lines::answer_all(&mut out, &rt, &mut input, &mut buf);
-    out.finish()
+    let mut input = BufReader::new(rt.alloc(), rt.reader())?;
+    lines::answer_all(&rt, rt.alloc(), &mut input)
 }

@@ -1,217 +1,150 @@
-// Text, numbers and floats, held until they are written out.
-ghost use Rattle.std.specs.Prelude.{◌≡◌, ◌≤◌, [], MatchOption, decimal, is_some};
-ghost use Rattle.replay.specs.Printed.{kept, Says, hex_text};
+// Values as the answer lines have them.
+ghost use Rattle.std.specs.Prelude.{◌≡◌, ℕ, List, Some, to_bits};
+ghost use Rattle.std.specs.Float.{binary32, binary64};
+ghost use Rattle.replay.specs.Printed.{hex_text, row_text, commas_text};
 
-use std::alloc::Global;
-use std::io;
-use std::io::Write;
+use std::fmt;
 
-// What is to be written, and the first failure of memory, of a read or of a write. After a failure nothing more is taken.
-#[derive(Drop)]
-pub struct Text {
-    bytes: Vec<u8>,
-    failure: Option<io::Error>,
+// A value that is written by its bits, in hexadecimal; of a float every NaN alike.
+pub trait Bits: Copy {
+    ghost DIGITS: { ℕ };
+
+    ghost value: { Self → ℕ };
+
+    const DIGITS: usize;
+
+    fn bits(self) -> u64
+        ensures { result ≡ value self };
 }
 
-impl Text {
-    pub fn new(alloc: Global) -> Text
-        ensures bytes { result.bytes.items ≡ [] }
-        ensures failure { result.failure ≡ None }
-    {
-        Text {
-            bytes: Vec::new(alloc),
-            failure: None,
+impl Bits for u8 {
+    ghost DIGITS = { 2 };
+
+    ghost value = { λ x. x };
+
+    const DIGITS: usize = 2;
+
+    fn bits(self) -> u64 {
+        u64::from(self)
+    }
+}
+
+impl Bits for u16 {
+    ghost DIGITS = { 4 };
+
+    ghost value = { λ x. x };
+
+    const DIGITS: usize = 4;
+
+    fn bits(self) -> u64 {
+        u64::from(self)
+    }
+}
+
+impl Bits for f32 {
+    ghost DIGITS = { 8 };
+
+    ghost value = { to_bits binary32 };
+
+    const DIGITS: usize = 8;
+
+    fn bits(self) -> u64 {
+        u64::from(std::num::f32_to_bits_with_nan(self))
+    }
+}
+
+impl Bits for f64 {
+    ghost DIGITS = { 16 };
+
+    ghost value = { to_bits binary64 };
+
+    const DIGITS: usize = 16;
+
+    fn bits(self) -> u64 {
+        std::num::f64_to_bits_with_nan(self)
+    }
+}
+
+// A number in hexadecimal, with zeros in front up to a width.
+#[derive(Clone, Copy)]
+struct Hex {
+    n: u64,
+    width: usize,
+}
+
+impl fmt::Display for Hex {
+    ghost output = { λ x. Some (hex_text x.n x.width) };
+
+    fn fmt<W: fmt::Write>(&self, f: &mut fmt::Formatter<W>) -> fmt::Result {
+        let n = self.n;
+        let width = self.width;
+        write!(f, "{n:0width$x}")
+    }
+}
+
+#[derive(Clone, Copy)]
+pub struct Cell<T>(pub T);
+
+impl<T: Bits> fmt::Display for Cell<T> {
+    ghost output = { λ x. Some (hex_text (T.value x.0) T.DIGITS) };
+
+    fn fmt<W: fmt::Write>(&self, f: &mut fmt::Formatter<W>) -> fmt::Result {
+        let hex = Hex {
+            n: self.0.bits(),
+            width: T::DIGITS,
+        };
+        write!(f, "{hex}")
+    }
+}
+
+// Values one after another; `-` where there are none.
+#[derive(Clone, Copy)]
+pub struct Row<'a, T>(pub &'a [T]);
+
+impl<T: Bits> fmt::Display for Row<'_, T> {
+    ghost output = { λ r. Some (row_text (λ x. hex_text (T.value x) T.DIGITS) r.0.now) };
+
+    fn fmt<W: fmt::Write>(&self, f: &mut fmt::Formatter<W>) -> fmt::Result {
+        if self.0.is_empty() {
+            return f.write_str("-");
         }
-    }
-
-    // Keeps an error, unless there was one before.
-    pub fn keep(&mut self, done: io::Result<()>)
-        ensures bytes { self.new.bytes ≡ self.old.bytes }
-        ensures failure { self.new.failure ≡ kept self.old.failure done }
-    {
-        if let Err(e) = done {
-            if self.failure.is_none() {
-                self.failure = Some(e);
-            }
+        for x in self.0 {
+            write!(f, "{}", Cell(*x))?;
         }
+        Ok(())
     }
+}
 
-    pub fn has_failed(&self) -> bool
-        ensures { result ≡ is_some self.now.failure }
-    {
-        self.failure.is_some()
-    }
+// Numbers with commas between them; `-` where there are none.
+#[derive(Clone, Copy)]
+pub struct Commas<'a>(pub &'a [u64]);
 
-    // Writes what is held, and empties it.
-    pub fn write_to(&mut self, rt: &impl Print)
-        ensures bytes { self.new.bytes.items ≡ [] }
-        ensures failure { MatchOption self.old.failure Unit (λ e. self.new.failure ≡ Some e) }
-    {
-        if !self.has_failed() {
-            let done = rt.write_all(&self.bytes);
-            self.keep(done);
+impl fmt::Display for Commas<'_> {
+    ghost output = { λ r. Some (commas_text r.0.now) };
+
+    fn fmt<W: fmt::Write>(&self, f: &mut fmt::Formatter<W>) -> fmt::Result {
+        let Some((first, others)) = self.0.split_first() else {
+            return f.write_str("-");
+        };
+        write!(f, "{first}")?;
+        for n in others {
+            write!(f, ",{n}")?;
         }
-        self.bytes.clear();
+        Ok(())
     }
+}
 
-    // The failure, if there was one.
-    pub fn finish(self) -> io::Result<()>
-        ensures { MatchOption self.failure (result ≡ Ok tt) (λ e. result ≡ Err e) }
-    {
-        match self.failure {
-            None => Ok(()),
-            Some(e) => Err(e),
+// An f32 that an f64 holds; `?` where it holds none.
+#[derive(Clone, Copy)]
+pub struct Single(pub f64);
+
+impl fmt::Display for Single {
+    fn fmt<W: fmt::Write>(&self, f: &mut fmt::Formatter<W>) -> fmt::Result {
+        let x = self.0;
+        let near = std::num::nearest_f64_to_f32_with_nan(x);
+        if !x.is_nan() && std::num::f32_to_f64_with_nan(near) != x {
+            return f.write_str("?");
         }
+        write!(f, "{}", Cell(near))
     }
-}
-
-pub fn say(out: &mut Text, text: &[u8])
-    ensures { Says out.old text.now out.new }
-{
-    if !out.has_failed() {
-        let done = out.bytes.write_all(text);
-        out.keep(done);
-    }
-}
-
-pub fn whole(out: &mut Text, n: u64)
-    ensures { Says out.old (decimal n) out.new }
-{
-    if !out.has_failed() {
-        let done = write!(out.bytes, "{n}");
-        out.keep(done);
-    }
-}
-
-// A signed number of its 64-bit word, two's complement.
-pub fn signed(out: &mut Text, n: u64) {
-    if n < 0x8000_0000_0000_0000 {
-        whole(out, n);
-        return;
-    }
-    say(out, b"-");
-    whole(out, u64::MAX - n + 1);
-}
-
-// A word and a whole number.
-pub fn named(out: &mut Text, name: &[u8], n: u64) {
-    say(out, name);
-    whole(out, n);
-}
-
-// In hexadecimal, with zeros in front up to a width.
-pub fn hex(out: &mut Text, n: u64, width: usize)
-    ensures { Says out.old (hex_text n width) out.new }
-{
-    if !out.has_failed() {
-        let done = write!(out.bytes, "{n:0width$x}");
-        out.keep(done);
-    }
-}
-
-fn wide8(x: u8) -> u64 {
-    x as u64
-}
-
-pub fn wide16(x: u16) -> u64
-    ensures { result ≡ x }
-{
-    x as u64
-}
-
-fn wide32(x: u32) -> u64 {
-    x as u64
-}
-
-// What stands for an array of no places.
-pub fn none_of(out: &mut Text, n: usize) {
-    if n == 0 {
-        say(out, b"-");
-    }
-}
-
-// Bytes in hexadecimal; `-` where there are none.
-pub fn hex_bytes(out: &mut Text, s: &[u8]) {
-    none_of(out, s.len());
-    let mut i = 0usize;
-    while i < s.len() {
-        hex(out, wide8(s[i]), 2);
-        i += 1;
-    }
-}
-
-// The bits of an f32, every NaN alike.
-pub fn single(out: &mut Text, x: f32) {
-    if x != x {
-        say(out, b"7fc00000");
-        return;
-    }
-    hex(out, wide32(f32::to_bits(x)), 8);
-}
-
-// The bits of an f64, every NaN alike.
-pub fn double(out: &mut Text, x: f64) {
-    if x != x {
-        say(out, b"7ff8000000000000");
-        return;
-    }
-    hex(out, f64::to_bits(x), 16);
-}
-
-// n / 2^times, rounded down.
-fn halved(n: u64, times: u64) -> u64
-    ensures { result ≤ n }
-{
-    let mut rest = n;
-    let mut left = times;
-    while 0 < left {
-        rest /= 2;
-        left -= 1;
-    }
-    rest
-}
-
-// The bits of an f32 that an f64 holds, from the f64's bits, without the sign.
-fn narrow(rest: u64) -> u64
-    requires { rest ≤ 0x7fff_ffff_ffff_ffff }
-    ensures { result ≤ 0x1f_ffff_ffff_ffff }
-{
-    let exponent = rest / 0x10_0000_0000_0000;
-    let fraction = rest % 0x10_0000_0000_0000;
-    if exponent < 874 {
-        return 0;
-    }
-    if exponent < 897 {
-        return halved(fraction + 0x10_0000_0000_0000, 926 - exponent);
-    }
-    if 1150 < exponent {
-        return 0x7f80_0000;
-    }
-    (exponent - 896) * 0x80_0000 + fraction / 0x2000_0000
-}
-
-fn narrowed(bits: u64) -> u64 {
-    let rest = narrow(bits % 0x8000_0000_0000_0000);
-    if bits < 0x8000_0000_0000_0000 {
-        return rest;
-    }
-    rest + 0x8000_0000
-}
-
-fn widened(n: u64) -> f64 {
-    std::num::f32_to_f64_with_nan(wire::float::f32_from_bits((n % 0x1_0000_0000) as u32))
-}
-
-// The bits of an f32 that an f64 holds, every NaN alike; `?` where it holds none.
-pub fn held_single(out: &mut Text, x: f64) {
-    if x != x {
-        say(out, b"7fc00000");
-        return;
-    }
-    let n = narrowed(f64::to_bits(x));
-    if widened(n) != x {
-        say(out, b"?");
-        return;
-    }
-    hex(out, n, 8);
 }

@@ -1,6 +1,8 @@
-// A refusal: its number, and its values out of the report.
-use crate::lent::{float, int};
-use crate::print::{Text, say};
+// A refusal: its number, and its values out of the report. The number stays one, since an answer line has it as the library gave it.
+use crate::lent::Report;
+use crate::print::Single;
+use std::io;
+use std::io::Write;
 
 // How many whole numbers a refusal has.
 fn wholes(number: u32) -> usize {
@@ -14,65 +16,73 @@ fn wholes(number: u32) -> usize {
 }
 
 fn has_float(number: u32) -> bool {
-    match number {
-        7 | 8 | 9 | 20 => true,
-        _ => false,
+    matches!(number, 7 | 8 | 9 | 20)
+}
+
+fn item(n: u64) -> &'static str {
+    match n {
+        0 => "int",
+        1 => "uint",
+        2 => "float",
+        3 => "string_body",
+        4 => "padding",
+        5 => "array_body",
+        6 => "packet_body",
+        _ => "?",
     }
 }
 
-fn say_item(out: &mut Text, n: u64) {
+fn buffer(n: u64) -> &'static str {
     match n {
-        0 => say(out, b"int"),
-        1 => say(out, b"uint"),
-        2 => say(out, b"float"),
-        3 => say(out, b"string_body"),
-        4 => say(out, b"padding"),
-        5 => say(out, b"array_body"),
-        6 => say(out, b"packet_body"),
-        _ => say(out, b"?"),
-    }
-}
-
-fn say_buffer(out: &mut Text, n: u64) {
-    match n {
-        0 => say(out, b"azimuths"),
-        1 => say(out, b"codes"),
-        2 => say(out, b"physical"),
-        3 => say(out, b"marks"),
-        4 => say(out, b"totals"),
-        5 => say(out, b"output"),
-        _ => say(out, b"?"),
+        0 => "azimuths",
+        1 => "codes",
+        2 => "physical",
+        3 => "marks",
+        4 => "totals",
+        5 => "output",
+        _ => "?",
     }
 }
 
 // The first whole number: an item, a buffer, an index that takes all 64 bits, or signed as the others are.
-fn say_first(out: &mut Text, number: u32, n: u64) {
+fn print_first(out: &mut Vec<u8>, number: u32, n: u64) -> io::Result<()> {
     match number {
-        3 => crate::print::whole(out, n),
-        23 => say_item(out, n),
-        36 => say_buffer(out, n),
-        _ => crate::print::signed(out, n),
+        3 => write!(out, " {n}"),
+        23 => write!(out, " {}", item(n)),
+        36 => write!(out, " {}", buffer(n)),
+        _ => write!(out, " {}", n.cast_signed()),
     }
 }
 
-fn print_wholes(out: &mut Text, number: u32, n: usize, ints: &[u64]) {
-    let mut k = 0usize;
-    while k < n {
-        say(out, b" ");
+// Asks an entry of the library, and writes its refusal, or what it accepted as `accepted` does.
+pub fn ask<F, G>(out: &mut Vec<u8>, entry: F, accepted: G) -> io::Result<()>
+where
+    F: FnOnce(&mut Report) -> u32,
+    G: FnOnce(&mut Vec<u8>, &Report) -> io::Result<()> + Drop,
+    requires entry { F.IsAlwaysCallable entry }
+    requires accepted { G.IsAlwaysCallable accepted }
+{
+    let mut report = Report::new();
+    let number = entry(&mut report);
+    if number == 0 {
+        accepted(out, &report)?;
+    } else {
+        print(out, number, &report)?;
+    }
+    report.check(out)
+}
+
+pub fn print(out: &mut Vec<u8>, number: u32, report: &Report) -> io::Result<()> {
+    write!(out, "R {number}")?;
+    for (k, n) in report.ints.iter().take(wholes(number)).enumerate() {
         if k == 0 {
-            say_first(out, number, int(ints, 0));
+            print_first(out, number, *n)?;
         } else {
-            crate::print::signed(out, int(ints, k));
+            write!(out, " {}", n.cast_signed())?;
         }
-        k += 1;
     }
-}
-
-pub fn print(out: &mut Text, number: u32, ints: &[u64], floats: &[f64]) {
-    crate::print::named(out, b"R ", number as u64);
-    print_wholes(out, number, wholes(number), ints);
     if has_float(number) {
-        say(out, b" f");
-        crate::print::held_single(out, float(floats, 0));
+        write!(out, " f{}", Single(report.floats[0]))?;
     }
+    Ok(())
 }

@@ -1,191 +1,184 @@
 // The readings that lend nothing but the report.
-use crate::kinds::Kind;
-use crate::lent::{float, int};
-use crate::print::{Text, held_single, named, say, signed};
-use crate::words::word;
-
-fn print_place(out: &mut Text, file: &[u8], at: usize, n: usize) {
-    if file.len() < at {
-        say(out, b"?");
-        return;
-    }
-    if file.len() - at < n {
-        say(out, b"?");
-        return;
-    }
-    let end = at + n;
-    say(out, &file[at..end]);
-}
+use crate::case::Case;
+use crate::kinds::FieldKind;
+use crate::lent::Report;
+use crate::print::{Cell, Single};
+use crate::refusal::ask;
+use std::io;
+use std::io::Write;
 
 // The token at a place, from byte `from` on: its product, its site, or both.
-pub fn print_token(out: &mut Text, file: &[u8], at: u64, from: u64, n: usize) {
-    if 128 < at {
-        say(out, b"?");
-        return;
-    }
-    if 3 < from {
-        say(out, b"?");
-        return;
-    }
-    print_place(out, file, (at + from) as usize, n);
-}
-
-fn print_double(out: &mut Text, name: &[u8], x: f64) {
-    say(out, name);
-    crate::print::double(out, x);
+pub fn print_token(
+    out: &mut Vec<u8>,
+    file: &[u8],
+    at: u64,
+    from: usize,
+    n: usize,
+) -> io::Result<()> {
+    let start = (at as usize).saturating_add(from);
+    let token = file.get(start..).and_then(|rest| rest.get(..n));
+    out.write_all(token.unwrap_or(b"?"))
 }
 
 // The fields of the description block.
-pub fn print_fields(out: &mut Text, ints: &[u64], floats: &[f64]) {
-    print_double(out, b"lat=", float(floats, 0));
-    print_double(out, b" lon=", float(floats, 1));
-    print_double(out, b" h=", float(floats, 2));
-    say(out, b" pc=");
-    signed(out, int(ints, 1));
-    named(out, b" vcp=", int(ints, 2));
-    named(out, b" days=", int(ints, 3));
-    say(out, b" secs=");
-    signed(out, int(ints, 4));
-    print_double(out, b" el=", float(floats, 3));
+pub fn print_fields(out: &mut Vec<u8>, report: &Report) -> io::Result<()> {
+    let ints = &report.ints;
+    let floats = &report.floats;
+    write!(
+        out,
+        "lat={} lon={} h={} pc={} vcp={} days={} secs={} el={}",
+        Cell(floats[0]),
+        Cell(floats[1]),
+        Cell(floats[2]),
+        ints[1].cast_signed(),
+        ints[2],
+        ints[3],
+        ints[4].cast_signed(),
+        Cell(floats[3])
+    )
 }
 
-fn print_pair(out: &mut Text, floats: &[f64], i: usize, j: usize) {
-    say(out, b"f");
-    held_single(out, float(floats, i));
-    say(out, b" f");
-    held_single(out, float(floats, j));
+fn print_number(out: &mut Vec<u8>, report: &Report) -> io::Result<()> {
+    write!(out, "A {}", report.ints[0].cast_signed())
 }
 
-fn print_field(out: &mut Text, kind: u32, ints: &[u64], floats: &[f64]) {
-    if kind == 3 {
-        print_pair(out, floats, 0, 1);
-        return;
+fn print_pair(out: &mut Vec<u8>, low: f64, high: f64) -> io::Result<()> {
+    write!(out, "A f{} f{}", Single(low), Single(high))
+}
+
+fn print_linear(out: &mut Vec<u8>, report: &Report) -> io::Result<()> {
+    print_pair(out, report.floats[6], report.floats[7])?;
+    write!(out, " {}", report.ints[11])
+}
+
+fn print_precip(out: &mut Vec<u8>, report: &Report) -> io::Result<()> {
+    print_pair(out, report.floats[6], report.floats[7])?;
+    write!(out, " {}", report.ints[12])?;
+    match report.ints[13] {
+        u64::MAX => out.write_all(b" none"),
+        ceiling => write!(out, " {ceiling}"),
     }
-    signed(out, int(ints, 0));
 }
 
-fn print_ceiling(out: &mut Text, n: u64) {
-    if n == u64::MAX {
-        say(out, b" none");
-        return;
-    }
-    named(out, b" ", n);
+pub fn token(out: &mut Vec<u8>, case: Case) -> io::Result<()> {
+    let file = case.bytes(2)?;
+    ask(
+        out,
+        |r| capi::header::l3_token(&file, &mut r.ints, &mut r.floats),
+        |out, r| {
+            out.write_all(b"A ")?;
+            print_token(out, &file, r.ints[0], 0, 3)?;
+            out.write_all(b" ")?;
+            print_token(out, &file, r.ints[0], 3, 3)
+        },
+    )
 }
 
-fn print_precip(out: &mut Text, ints: &[u64], floats: &[f64]) {
-    print_pair(out, floats, 6, 7);
-    named(out, b" ", int(ints, 12));
-    print_ceiling(out, int(ints, 13));
+pub fn header(out: &mut Vec<u8>, case: Case) -> io::Result<()> {
+    let file = case.bytes(2)?;
+    ask(
+        out,
+        |r| capi::header::l3_message_header(&file, &mut r.ints, &mut r.floats),
+        print_number,
+    )
 }
 
-fn print_linear(out: &mut Text, ints: &[u64], floats: &[f64]) {
-    print_pair(out, floats, 6, 7);
-    named(out, b" ", int(ints, 11));
+pub fn trailing(out: &mut Vec<u8>, case: Case) -> io::Result<()> {
+    let bytes = case.bytes(2)?;
+    ask(
+        out,
+        |r| capi::body::l3_trailing(&bytes, &mut r.ints, &mut r.floats),
+        |out, _| out.write_all(b"A"),
+    )
+}
+
+pub fn time(out: &mut Vec<u8>, case: Case) -> io::Result<()> {
+    let clock = crate::words::clock(case.word(2));
+    let days = crate::words::unsigned16(case.word(3));
+    let seconds = crate::words::signed32(case.word(4));
+    ask(
+        out,
+        |r| capi::header::l3_scan_time(days, seconds, clock, &mut r.ints, &mut r.floats),
+        print_number,
+    )
 }
 
 // Year, month and day.
-fn print_date(out: &mut Text, ints: &[u64]) {
-    named(out, b"", int(ints, 0));
-    named(out, b" ", int(ints, 1));
-    named(out, b" ", int(ints, 2));
+pub fn date(out: &mut Vec<u8>, case: Case) -> io::Result<()> {
+    let days = crate::words::unsigned16(case.word(2));
+    ask(
+        out,
+        |r| capi::dates::l3_date(days, &mut r.ints, &mut r.floats),
+        |out, r| write!(out, "A {} {} {}", r.ints[0], r.ints[1], r.ints[2]),
+    )
 }
 
-fn print_accepted(
-    out: &mut Text,
-    kind: Kind,
-    line: &[u8],
-    bytes: &[u8],
-    ints: &[u64],
-    floats: &[f64],
-) {
-    match kind {
-        Kind::Token => {
-            print_token(out, bytes, int(ints, 0), 0, 3);
-            say(out, b" ");
-            print_token(out, bytes, int(ints, 0), 3, 3);
-        }
-        Kind::Field => print_field(out, crate::kinds::field_kind(word(line, 5)), ints, floats),
-        Kind::Block => print_fields(out, ints, floats),
-        Kind::Linear => print_linear(out, ints, floats),
-        Kind::Float => print_linear(out, ints, floats),
-        Kind::Precip => print_precip(out, ints, floats),
-        Kind::Date => print_date(out, ints),
-        _ => signed(out, int(ints, 0)),
-    }
+pub fn field(out: &mut Vec<u8>, case: Case) -> io::Result<()> {
+    let file = case.bytes(2)?;
+    let block = case.size(3);
+    let index = case.size(4);
+    let Some(kind) = FieldKind::of(case.word(5)) else {
+        return out.write_all(b"?");
+    };
+    ask(
+        out,
+        |r| {
+            capi::pdb::l3_field(
+                &file,
+                block,
+                index,
+                u32::from(kind),
+                &mut r.ints,
+                &mut r.floats,
+            )
+        },
+        |out, r| match kind {
+            FieldKind::Pair => print_pair(out, r.floats[0], r.floats[1]),
+            _ => print_number(out, r),
+        },
+    )
 }
 
-// A reading of the description block.
-fn ask_block(kind: Kind, line: &[u8], file: &[u8], ints: &mut [u64], floats: &mut [f64]) -> u32 {
-    let block = crate::words::size(word(line, 3));
-    match kind {
-        Kind::Field => capi::pdb::l3_field(
-            file,
-            block,
-            crate::words::size(word(line, 4)),
-            crate::kinds::field_kind(word(line, 5)),
-            ints,
-            floats,
-        ),
-        Kind::Linear => capi::scaling::l3_linear(file, block, ints, floats),
-        Kind::Float => capi::scaling::l3_float(file, block, ints, floats),
-        Kind::Precip => capi::scaling::l3_precip(
-            file,
-            block,
-            crate::hex::float(word(line, 4)),
-            ints,
-            floats,
-        ),
-        _ => capi::pdb::l3_pdb(file, block, ints, floats),
-    }
+pub fn block(out: &mut Vec<u8>, case: Case) -> io::Result<()> {
+    let file = case.bytes(2)?;
+    let block = case.size(3);
+    ask(
+        out,
+        |r| capi::pdb::l3_pdb(&file, block, &mut r.ints, &mut r.floats),
+        |out, r| {
+            out.write_all(b"A ")?;
+            print_fields(out, r)
+        },
+    )
 }
 
-fn ask(kind: Kind, line: &[u8], file: &[u8], ints: &mut [u64], floats: &mut [f64]) -> u32 {
-    match kind {
-        Kind::Token => capi::header::l3_token(file, ints, floats),
-        Kind::Header => capi::header::l3_message_header(file, ints, floats),
-        Kind::Trailing => capi::body::l3_trailing(file, ints, floats),
-        Kind::Time => capi::header::l3_scan_time(
-            crate::words::unsigned16(word(line, 3)),
-            crate::words::signed32(word(line, 4)),
-            crate::words::clock(word(line, 2)),
-            ints,
-            floats,
-        ),
-        Kind::Date => capi::dates::l3_date(crate::words::unsigned16(word(line, 2)), ints, floats),
-        _ => ask_block(kind, line, file, ints, floats),
-    }
+pub fn linear(out: &mut Vec<u8>, case: Case) -> io::Result<()> {
+    let file = case.bytes(2)?;
+    let block = case.size(3);
+    ask(
+        out,
+        |r| capi::scaling::l3_linear(&file, block, &mut r.ints, &mut r.floats),
+        print_linear,
+    )
 }
 
-fn print(
-    out: &mut Text,
-    kind: Kind,
-    line: &[u8],
-    file: &[u8],
-    number: u32,
-    ints: &[u64],
-    floats: &[f64],
-) {
-    if number != 0 {
-        crate::refusal::print(out, number, ints, floats);
-        return;
-    }
-    say(out, b"A");
-    match kind {
-        Kind::Trailing => {}
-        _ => {
-            say(out, b" ");
-            print_accepted(out, kind, line, file, ints, floats);
-        }
-    }
+pub fn float(out: &mut Vec<u8>, case: Case) -> io::Result<()> {
+    let file = case.bytes(2)?;
+    let block = case.size(3);
+    ask(
+        out,
+        |r| capi::scaling::l3_float(&file, block, &mut r.ints, &mut r.floats),
+        print_linear,
+    )
 }
 
-// Word 2 is the file, but for the time and the date, which have none.
-pub fn answer(out: &mut Text, kind: Kind, line: &[u8]) {
-    let mut file = crate::hex::room();
-    let n = crate::hex::read(word(line, 2), &mut file);
-    let mut ints = crate::lent::ints();
-    let mut floats = crate::lent::floats();
-    let number = ask(kind, line, &file[..n], &mut ints, &mut floats);
-    print(out, kind, line, &file[..n], number, &ints, &floats);
-    crate::lent::check_report(out, &ints, &floats);
+pub fn precip(out: &mut Vec<u8>, case: Case) -> io::Result<()> {
+    let file = case.bytes(2)?;
+    let block = case.size(3);
+    let factor = case.float(4);
+    ask(
+        out,
+        |r| capi::scaling::l3_precip(&file, block, factor, &mut r.ints, &mut r.floats),
+        print_precip,
+    )
 }

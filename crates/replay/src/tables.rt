@@ -1,92 +1,55 @@
 // Thresholds, levels and the known codes.
-use crate::print::{Text, say};
-use crate::words::word;
+use crate::case::Case;
+use crate::lent::{Pattern, Report, check};
+use crate::print::{Cell, Row};
+use std::io;
+use std::io::Write;
 
-fn check_thresholds(out: &mut Text, thresholds: &[u8]) {
-    let mut i = 0usize;
-    while i < thresholds.len() {
-        if thresholds[i] != 0xa5 {
-            say(out, b" KEPT thresholds");
-            return;
-        }
-        i += 1;
-    }
-}
-
-pub fn threshold(out: &mut Text, line: &[u8]) {
-    let mut file = crate::hex::room();
-    let n = crate::hex::read(word(line, 2), &mut file);
-    let block = crate::words::size(word(line, 3));
-    let mut thresholds = [0xa5u8; 32];
-    let mut ints = crate::lent::ints();
-    let mut floats = crate::lent::floats();
+pub fn threshold(out: &mut Vec<u8>, case: Case) -> io::Result<()> {
+    let file = case.bytes(2)?;
+    let block = case.size(3);
+    let mut thresholds = [u8::pattern(); 32];
+    let mut report = Report::new();
     let number = capi::scaling::l3_threshold(
-        &file[..n],
+        &file,
         block,
         &mut thresholds,
-        &mut ints,
-        &mut floats,
+        &mut report.ints,
+        &mut report.floats,
     );
     if number == 0 {
-        say(out, b"A ");
-        crate::print::hex_bytes(out, &thresholds);
+        write!(out, "A {}", Row(&thresholds))?;
     } else {
-        crate::refusal::print(out, number, &ints, &floats);
-        check_thresholds(out, &thresholds);
+        crate::refusal::print(out, number, &report)?;
+        check(out, "thresholds", &thresholds, 0)?;
     }
-    crate::lent::check_report(out, &ints, &floats);
+    report.check(out)
 }
 
-fn print_levels(out: &mut Text, levels: &[f32]) {
-    say(out, b"A");
-    let mut i = 0usize;
-    while i < levels.len() {
-        say(out, b" ");
-        crate::print::single(out, levels[i]);
-        i += 1;
-    }
-}
-
-pub fn legacy(out: &mut Text, line: &[u8]) {
-    let mut bytes = crate::hex::room();
-    let n = crate::hex::read(word(line, 2), &mut bytes);
-    let mut levels = [-7777.0f32; 16];
-    let number = capi::scaling::l3_legacy16(
-        &bytes[..n],
-        crate::hex::float(word(line, 3)),
-        &mut levels,
-    );
+pub fn legacy(out: &mut Vec<u8>, case: Case) -> io::Result<()> {
+    let bytes = case.bytes(2)?;
+    let mut levels = [f32::pattern(); 16];
+    let number = capi::scaling::l3_legacy16(&bytes, case.float(3), &mut levels);
     if number != 0 {
-        crate::print::named(out, b"R ", number as u64);
-        return;
+        return write!(out, "R {number}");
     }
-    print_levels(out, &levels);
-}
-
-pub fn known(out: &mut Text, line: &[u8]) {
-    let number = capi::products::l3_known(crate::words::signed16(word(line, 2)));
-    crate::print::named(out, b"A ", number as u64);
-}
-
-fn print_codes(out: &mut Text, codes: &[u16]) {
-    say(out, b"A [");
-    let mut i = 0usize;
-    while i < codes.len() {
-        if 0 < i {
-            say(out, b", ");
-        }
-        crate::print::whole(out, crate::print::wide16(codes[i]));
-        i += 1;
+    out.write_all(b"A")?;
+    for level in levels {
+        write!(out, " {}", Cell(level))?;
     }
-    say(out, b"]");
+    Ok(())
 }
 
-pub fn codes(out: &mut Text) {
-    let mut table = [0xa5c3u16; 26];
+pub fn known(out: &mut Vec<u8>, case: Case) -> io::Result<()> {
+    let number = capi::products::l3_known(crate::words::signed16(case.word(2)));
+    write!(out, "A {number}")
+}
+
+pub fn codes(out: &mut Vec<u8>) -> io::Result<()> {
+    let mut table = [u16::pattern(); 26];
     let number = capi::products::l3_codes(&mut table);
     if number != 0 {
-        crate::print::named(out, b"R ", number as u64);
-        return;
+        return write!(out, "R {number}");
     }
-    print_codes(out, &table);
+    write!(out, "A {table:?}")
 }

@@ -2,37 +2,26 @@
 // words a line must have.
 ghost use Rattle.std.specs.Prelude.{◌≡◌, ◌%◌, ◌<◌, ◌≤◌, length, drop};
 ghost use Rattle.wire.specs.Bytes.{signed as signed_of};
-ghost use Rattle.wire.specs.Text.{all, leading};
+ghost use Rattle.std.specs.List.{prefix_len};
+ghost use Rattle.wire.specs.Text.{all};
 ghost use Rattle.replay.specs.Words.{is_space, other, start_from, end_from, ended, word_of};
-ghost use Rattle.replay.specs.Words.{is_digit, digit_of, with_digit, number_of, is_number, negative};
+ghost use Rattle.replay.specs.Words.{is_digit, digit_of, with_digit, number_of, is_number};
 ghost use Rattle.replay.specs.Words.{is_unsigned, is_size, is_signed, clock_of, signed_word};
 
 // How many spaces stand at the front.
 fn spaces(text: &[u8]) -> usize
-    ensures { result ≡ leading is_space text.now }
+    ensures value { result ≡ prefix_len is_space text.now }
+    ensures within { result ≤ length text.now }
 {
-    let mut i = 0usize;
-    while i < text.len() {
-        if text[i] != b' ' {
-            return i;
-        }
-        i += 1;
-    }
-    i
+    text.iter().take_while(|b| **b == b' ').count()
 }
 
 // How many bytes stand before the first `stop`.
 pub fn letters(text: &[u8], stop: u8) -> usize
-    ensures { result ≡ leading (other stop) text.now }
+    ensures value { result ≡ prefix_len (other stop) text.now }
+    ensures within { result ≤ length text.now }
 {
-    let mut i = 0usize;
-    while i < text.len() {
-        if text[i] == stop {
-            return i;
-        }
-        i += 1;
-    }
-    i
+    text.iter().take_while(|b| **b != stop).count()
 }
 
 // Where the word at a place or after it begins; the length where there is none.
@@ -55,11 +44,9 @@ fn end_from(line: &[u8], at: usize) -> usize
 fn after(line: &[u8], k: usize) -> usize
     ensures { (result ≡ ended line.now k) × (result ≤ length line.now) }
 {
-    let mut at = 0usize;
-    let mut i = 0usize;
-    while i < k {
+    let mut at = 0;
+    for _ in 0..k {
         at = end_from(line, start_from(line, at));
-        i += 1;
     }
     at
 }
@@ -74,148 +61,78 @@ pub fn word(line: &[u8], k: usize) -> &[u8]
     &rest[..n]
 }
 
+// std's test, in the words of the clauses here.
 fn is_digit(b: u8) -> bool
     ensures { result ≡ is_digit b }
 {
-    if b < 48 {
-        return false;
-    }
-    if 57 < b {
-        return false;
-    }
-    true
+    b.is_ascii_digit()
 }
 
 // The value of a decimal digit; 0 of any other byte.
 fn digit(b: u8) -> u64
     ensures { (result ≡ digit_of b) × (result < 10) }
 {
-    if b < 48 {
-        return 0;
-    }
-    if 57 < b {
-        return 0;
-    }
-    (b - 48) as u64
+    if is_digit(b) { u64::from(b - b'0') } else { 0 }
 }
 
 // n and one digit more; the greatest number where that is over it.
 fn with_digit(n: u64, b: u8) -> u64
     ensures { result ≡ with_digit n b }
 {
-    let d = digit(b);
-    if (u64::MAX - d) / 10 < n {
-        return u64::MAX;
-    }
-    n * 10 + d
-}
-
-fn is_negative(word: &[u8]) -> bool
-    ensures { result ≡ negative word.now }
-{
-    if wire::bytes::byte_at(word, 0) == 45 {
-        return true;
-    }
-    false
+    n.saturating_mul(10).saturating_add(digit(b))
 }
 
 fn all_digits(text: &[u8]) -> bool
     ensures { result ≡ all is_digit text.now }
 {
-    let mut i = 0usize;
-    while i < text.len() {
-        if !is_digit(text[i]) {
-            return false;
-        }
-        i += 1;
-    }
-    true
+    text.iter().all(|b| is_digit(*b))
 }
 
 // Whether there are digits, and nothing else.
 fn is_number(text: &[u8]) -> bool
     ensures { result ≡ is_number text.now }
 {
-    if text.len() == 0 {
-        return false;
-    }
-    all_digits(text)
+    !text.is_empty() && all_digits(text)
 }
 
 pub fn number(text: &[u8]) -> u64
     ensures { result ≡ number_of text.now }
 {
-    let mut n = 0u64;
-    let mut i = 0usize;
-    while i < text.len() {
-        n = with_digit(n, text[i]);
-        i += 1;
-    }
-    n
+    text.iter().fold(0, |n, b| with_digit(n, *b))
 }
 
 // Whether a word is a number from 0 to `most`.
 pub fn is_unsigned(word: &[u8], most: u64) -> bool
     ensures { result ≡ is_unsigned word.now most }
 {
-    if !is_number(word) {
-        return false;
-    }
-    if most < number(word) {
-        return false;
-    }
-    true
+    is_number(word) && number(word) <= most
 }
 
 // Whether it is one that a usize holds; `number` answers the greatest one on every number over it.
 pub fn is_size(word: &[u8]) -> bool
     ensures { result ≡ is_size word.now }
 {
-    if is_unsigned(word, 18446744073709551614) {
-        return true;
-    }
-    wire::text::same(word, b"18446744073709551615")
-}
-
-// The digits after a sign.
-fn without_sign(word: &[u8]) -> &[u8]
-    ensures { result.now ≡ drop 1 word.now }
-{
-    if word.len() == 0 {
-        return word;
-    }
-    &word[1..]
+    is_unsigned(word, u64::MAX - 1) || word == b"18446744073709551615".as_slice()
 }
 
 // Whether it is one from -1 - `most` to `most`.
 pub fn is_signed(word: &[u8], most: u64) -> bool
     ensures { result ≡ is_signed word.now most }
 {
-    if !is_negative(word) {
-        return is_unsigned(word, most);
+    match word {
+        [b'-', digits @ ..] => is_number(digits) && number(digits).saturating_sub(1) <= most,
+        _ => is_unsigned(word, most),
     }
-    let text = without_sign(word);
-    if !is_number(text) {
-        return false;
-    }
-    let n = number(text);
-    if n == 0 {
-        return true;
-    }
-    if most < n - 1 {
-        return false;
-    }
-    true
 }
 
 // A clock that no u64 holds is out of range, as the greatest one is.
 pub fn clock(word: &[u8]) -> u64
     ensures { result ≡ clock_of word.now }
 {
-    if is_negative(word) {
-        return u64::MAX;
+    match word {
+        [b'-', ..] => u64::MAX,
+        _ => number(word),
     }
-    number(word)
 }
 
 pub fn size(word: &[u8]) -> usize
@@ -234,14 +151,10 @@ pub fn unsigned16(word: &[u8]) -> u16
 fn signed(word: &[u8]) -> u64
     ensures { result ≡ signed_word word.now }
 {
-    if !is_negative(word) {
-        return number(word);
+    match word {
+        [b'-', digits @ ..] => number(digits).wrapping_neg(),
+        _ => number(word),
     }
-    let n = number(without_sign(word));
-    if n == 0 {
-        return 0;
-    }
-    u64::MAX - n + 1
 }
 
 pub fn signed16(word: &[u8]) -> i16

@@ -12,15 +12,14 @@ use borrow.Author.Tests.{leb-true, lt-leb}
 use Rattle.wire.specs.Float.{f32}
 use Rattle.wire.specs.Refusal.{kind, float}
 use Rattle.wire.specs.Result.{accepted, refused}
-use Rattle.scale.specs.declared.scaling.Ceiling.TheVariants.{At, Absent}
+use Rattle.std.specs.Prelude.{Some, None}
 use Rattle.scale.specs.declared.physical.Scaling.TheVariants.{Linear, Precip}
-use Rattle.scale.specs.declared.physical.Declared.TheVariants as Declared
 use Rattle.scale.specs.Legacy.{scale_of, legacy_level}
 use Rattle.scale.specs.Physical.{capped_value, precip_value, value_of, declared_scale}
 use Rattle.scale.specs.Scaling.{usable, floor_of, ceiling_of, linear_float, scaled, count, level_count, linear_declared}
 
 -- leading 9: floor 1, and no ceiling
-pub leading_9 : (floor_of 255 9 0 ≡ 1) × (ceiling_of 255 9 0 ≡ Absent)
+pub leading_9 : (floor_of 255 9 0 ≡ 1) × (ceiling_of 255 9 0 ≡ None)
 leading_9 = (refl, refl)
 
 -- ---- the float scheme's ranges: codes 2 and 255
@@ -69,19 +68,19 @@ negative = refl
 
 -- a factor that is a NaN: the step, the minimum and each value are NaN, and nothing is refused
 pub factor_nan :
-    declared_scale (Precip (scaled (f32 10 1) (f32 0 1) nan 1 Absent))
-    ≡ accepted (Declared.Scale (record { value_min = nan; value_increment = nan; n_levels = 65535; data_floor_code = 1 }))
+    declared_scale (Precip (scaled (f32 10 1) (f32 0 1) nan 1 None))
+    ≡ accepted (Some (record { value_min = nan; value_increment = nan; n_levels = 65535; data_floor_code = 1 }))
 unfolding declared_scale level_count count add mul div neg of_int f32
 factor_nan = refl
 
-pub factor_nan_value : precip_value (scaled (f32 10 1) (f32 0 1) nan 1 Absent) 5 ≡ nan
+pub factor_nan_value : precip_value (scaled (f32 10 1) (f32 0 1) nan 1 None) 5 ≡ nan
 unfolding add mul div neg of_int f32
 factor_nan_value = refl
 
 -- ---- precipitation's codes
 
 -- a ceiling under the floor: no code is valid, and the count is 0
-pub no_level : level_count 5 (At 3) ≡ 0
+pub no_level : level_count 5 (Some 3) ≡ 0
 unfolding level_count count
 no_level = refl
 
@@ -93,11 +92,11 @@ no_code m step floor top code h = go (leb floor code) refl
     go false u = rw u
 
 -- without a ceiling the last code counts; floor 0 and ceiling 65,535: all codes
-pub open_codes : level_count 1 Absent ≡ 65535
+pub open_codes : level_count 1 None ≡ 65535
 unfolding level_count count
 open_codes = refl
 
-pub all_codes : level_count 0 (At 65535) ≡ 65536
+pub all_codes : level_count 0 (Some 65535) ≡ 65536
 unfolding level_count count
 all_codes = refl
 

@@ -1,20 +1,11 @@
--- Which floats are finite, by two comparisons with the infinities. Assumes nothing.
+-- std's test of a finite float is the logic's. Assumes nothing.
 use mathlib.Core.Path.{◌≡◌, refl}
-use mathlib.Core.Bool.{true, false}
-use lib.Ieee.{Float, nan, inf, fin, lt}
+use lib.Ieee.{Float, nan, inf, fin}
 use lib.Ieee.Scale.{finite}
+use Rattle.std.specs.Float.{float_is_finite}
 
--- what is above minus infinity is finite exactly if it is below infinity
-pub finite_below : (x : Float) → lt (inf true) x ≡ true → lt x (inf false) ≡ finite x
-unfolding lt
-finite_below nan h = refl
-finite_below (inf true) h = cc
-finite_below (inf false) h = refl
-finite_below (fin s m e) h = refl
-
--- and what is not, is not finite
-pub not_above : (x : Float) → lt (inf true) x ≡ false → false ≡ finite x
-unfolding lt
-not_above nan h = refl
-not_above (inf s) h = refl
-not_above (fin s m e) h = cc
+pub finite_is : (x : Float) → float_is_finite x ≡ finite x
+unfolding float_is_finite
+finite_is nan = refl
+finite_is (inf s) = refl
+finite_is (fin s m e) = refl

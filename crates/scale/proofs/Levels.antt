@@ -2,23 +2,21 @@
 use mathlib.Core.Path.{◌≡◌, refl, sym, ap, ◌∙◌}
 use mathlib.Core.Bool.{Bool, true, false, cond, ◌&&◌, and_assoc, and-true}
 use mathlib.Core.List.{List, [], ◌∷◌, map}
-use Prim.Native.Nat.{ℕ, zero, suc, ◌+◌, ◌*◌, ◌≤◌, ◌<◌}
-use native.Mathlib.Numerals.{add-one}
-use native.Mathlib.Nat.{not-suc-le-zero, le_of_suc-le-suc, zero-add}
+use Prim.Native.Nat.{ℕ, ◌+◌, ◌*◌, ◌<◌}
+use native.Mathlib.Nat.{zero-add}
 use native.Mathlib.Omega.{arith}
 use lib.IntN.{pos}
 use lib.Dec.{ltb}
-use lib.ListN.{length, get_or, drop}
+use lib.ListN.{get_or}
 use lib.Ieee.{Float, nan, mul}
 use borrow.Author.Tests.{ltb-true, ltb-false, lt-ltb, le-ltb}
 use lib.Bits.{bit_or, and_le_l, and_le_r, or_lt, or_add_and}
-use lib.Seq.{drop-cons, drop-length}
 use Rattle.wire.specs.Float.{whole32, ◌⊗◌}
+use Rattle.std.specs.Prelude.{fold}
 use Rattle.wire.specs.Text.{all}
-use Rattle.wire.proofs.Codes.{both}
 use Rattle.wire.proofs.Counted.{counted}
 use Rattle.scale.specs.Legacy.{has, sign_of, scale_of, level_at, unscaled_at, unscaled_levels, sixteen}
-use Rattle.scale.specs.Physical.{has_level, level_of, scaled_level_of, value_of}
+use Rattle.scale.specs.Physical.{has_level, scaled_level_of, value_of}
 use Rattle.scale.specs.declared.physical.Scaling.TheVariants as Scaling
 
 pub sixteen_at : {A : Type 0} (f : ℕ → A) (z : A) (k : ℕ) → k < 16 → get_or (map f sixteen) k z ≡ f k
@@ -62,43 +60,9 @@ both_have a b = go (ltb a 16) refl (ltb b 16) refl
     go true s false t = le-ltb (bit_or a b) 16 (omega (arith, ltb-false b 16 t, or_add_and a b, and_le_l a b))
     go false s q t = le-ltb (bit_or a b) 16 (omega (arith, ltb-false a 16 s, or_add_and a b, and_le_r a b))
 
--- those before i have the bits, and the rest is still to be tested
-pub record Together (cs : List ℕ) (bits i : ℕ) : Type 0 where
-  pub place : i ≤ length cs
-  pub known : all has_level cs ≡ has_level bits && all has_level (drop i cs)
-
-pub together_first : (cs : List ℕ) → Together cs 0 0
-together_first cs = record { place = omega arith; known = refl }
-
-module _ {cs : List ℕ} {bits i : ℕ} (inv : Together cs bits i) where
-  pub together_turn : i < length cs → Together cs (bit_or bits (get_or cs i 0)) (i + 1)
-  unfolding all
-  together_turn h =
-      let e : drop i cs ≡ get_or cs i 0 ∷ drop (i + 1) cs = rw add-one (drop-cons cs i 0 h) in
-      record {
-        place = omega arith;
-        known =
-            inv.known
-            ∙ ap (λ (s : List ℕ). has_level bits && all has_level s) e
-            ∙ sym (and_assoc (has_level bits) (has_level (get_or cs i 0)) (all has_level (drop (i + 1) cs)))
-            ∙ ap (λ (b : Bool). b && all has_level (drop (i + 1) cs)) (sym (both_have bits (get_or cs i 0)));
-      }
-
-  pub together_end : length cs ≤ i → has_level bits ≡ all has_level cs
-  unfolding all
-  together_end h =
-      let e : i ≡ length cs = omega (arith, inv.place) in
-      sym (inv.known ∙ ap (λ (s : List ℕ). has_level bits && all has_level s) (ap (λ (k : ℕ). drop k cs) e ∙ drop-length cs) ∙ and-true (has_level bits))
-
--- a code of those that have levels
-pub code_has : (cs : List ℕ) (i : ℕ) → all has_level cs ≡ true → i < length cs → has_level (get_or cs i 0) ≡ true
-unfolding all
-code_has [] i e h = absurd (not-suc-le-zero h)
-code_has (x ∷ cs) zero e h = (both (has_level x) (all has_level cs) e).0
-code_has (x ∷ cs) (suc i) e h = code_has cs i (both (has_level x) (all has_level cs) e).1 (le_of_suc-le-suc h)
-
-pub code_small : (cs : List ℕ) (i : ℕ) → all has_level cs ≡ true → i < length cs → get_or cs i 0 < 16
-code_small cs i e h = ltb-true (get_or cs i 0) 16 (code_has cs i e h)
-
-pub level_known : (levels : List Float) (code : ℕ) → has_level code ≡ true → get_or levels code nan ≡ level_of levels code
-level_known levels code e = ap (λ (b : Bool). cond b (get_or levels code nan) nan) (sym e)
+pub together : (bits : ℕ) (cs : List ℕ) → has_level (fold bit_or bits cs) ≡ (has_level bits && all has_level cs)
+together bits [] = sym (and-true (has_level bits))
+together bits (x ∷ cs) =
+    together (bit_or bits x) cs
+    ∙ ap (λ (b : Bool). b && all has_level cs) (both_have bits x)
+    ∙ and_assoc (has_level bits) (has_level x) (all has_level cs)

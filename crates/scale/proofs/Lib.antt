@@ -1,9 +1,9 @@
 pub mod Valid
 pub mod Finite
+pub mod Whole
 pub mod Gaps
 pub mod Mapped
 pub mod Levels
-pub mod Copied
 pub mod Filling
 pub mod Examples
 pub mod Thresholds

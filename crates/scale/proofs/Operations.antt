@@ -65,7 +65,7 @@ add_val f (fin false m e) (fin false n g) a b L P h k =
     round_same f false (m * up e * down g + n * up g * down e) (down e * down g) (a + b) L (mul-pos (down_pos e) (down_pos g)) P
     (add-mul (m * up e * down g) (n * up g * down e) L ∙ ap (λ (z : ℕ). z + n * up g * down e * L) (left m e n g a b L h.1 k.1) ∙ ap (λ (z : ℕ). a * (down e * down g) + z) (right m e n g a b L h.1 k.1) ∙ sym (add-mul a b (down e * down g)))
 
-sub_scale : (A B a b C L : ℕ) → A * L ≡ a * C → B * L ≡ b * C → (B - A) * L ≡ (b - a) * C
+pub sub_scale : (A B a b C L : ℕ) → A * L ≡ a * C → B * L ≡ b * C → (B - A) * L ≡ (b - a) * C
 sub_scale A B a b C L p q =
     mul_comm (B - A) L ∙ mul-sub L B A ∙ ap (λ (z : ℕ). z - L * A) (mul_comm L B ∙ q ∙ mul_comm b C) ∙ ap (λ (z : ℕ). C * b - z) (mul_comm L A ∙ p ∙ mul_comm a C) ∙ sym (mul-sub C b a) ∙ mul_comm C (b - a)
 

@@ -21,7 +21,8 @@ use Rattle.wire.proofs.Results.{one_value, through, passed}
 use Rattle.head.specs.Pdb.{field_at, hw_i16, hw_u16}
 use Rattle.scale.specs.declared.physical.Scheme.TheVariants as Scheme
 use Rattle.scale.specs.declared.physical.Scaling.{Scaling}
-use Rattle.scale.specs.declared.physical.Declared.{Declared}
+use Rattle.std.specs.Prelude.{Option}
+use Rattle.scale.specs.declared.scaling.DeclaredLinearScale.{DeclaredLinearScale}
 use Rattle.scale.specs.Scaling.{linear_hw, linear_declared}
 use Rattle.scale.specs.Pdb.{value_scaling_linear_hw}
 use Rattle.scale.specs.Physical.{scale_fields, declared_scale, value_of, physical_of}
@@ -94,7 +95,7 @@ step_positive (negsuc n) h e =
     ∙ ap (λ (x : Float). le (div binary32 x (f32 10 1)) (f32 0 1)) (sym (of_neg n)) ∙ e))
 
 -- so the scale fields are what M-108 asks for
-pub declared_halfwords : (file : List ℕ) (block : ℕ) (v : Scaling) (d : Declared) → ((k : ℕ) → get_or file k 0 < 256) → scale_fields Scheme.Halfword file block ≡ accepted v → declared_scale v ≡ accepted d
+pub declared_halfwords : (file : List ℕ) (block : ℕ) (v : Scaling) (d : Option DeclaredLinearScale) → ((k : ℕ) → get_or file k 0 < 256) → scale_fields Scheme.Halfword file block ≡ accepted v → declared_scale v ≡ accepted d
     → (m : ℤ) × (i : ℕ) × Halfwords file block m i
 unfolding scale_fields value_scaling_linear_hw declared_scale
 declared_halfwords file block v d bytes read declares =

@@ -13,17 +13,19 @@ use lib.Dec.{ltb}
 use lib.Ieee.{Float, nan}
 use lib.ListN.{length, get_or, take, drop, replicate}
 use lib.Seq.{get_or-take, get_or-drop}
-use borrow.Author.Tests.{ltb-true, ltb-false, lt-ltb}
+use borrow.Author.Tests.{ltb-true, lt-ltb}
 use Rattle.wire.specs.Float.{f32}
 use Rattle.wire.specs.Refusal.{Refusal, kind, nat}
-use Rattle.wire.specs.Result.{Result, accepted, refused, then}
+use Rattle.wire.specs.Result.{Result, accepted, refused, refuse, then, answer as answer_of}
 use Rattle.wire.specs.Text.{all}
 use Rattle.wire.proofs.Codes.{both}
-use Rattle.wire.proofs.Results.{clash, one_refusal, through}
-use Rattle.head.specs.Outcome.{place}
-use Rattle.head.proofs.Fields.{field_out, field_in}
+use Rattle.wire.proofs.Results.{clash, one_value, one_refusal, through}
+use Rattle.head.specs.Pdb.{field_at}
 use Rattle.scale.specs.Legacy.{legacy_level, level_at, levels_of, sixteen}
-use Rattle.scale.specs.Pdb.{threshold_place, threshold_bytes}
+use Rattle.std.specs.Prelude as Std
+use Rattle.std.specs.Prelude.{Ok, Err}
+use Rattle.wire.specs.declared.error.Level3DecodeError.{Level3DecodeError}
+use Rattle.scale.specs.Pdb.{threshold_place, thirty_two, threshold_bytes, thresholds}
 use Rattle.scale.specs.Physical.{has_level, level_of, scale_fields, value_of, physical_of}
 use Rattle.scale.specs.Thresholds.{levels_in_file, levels_of_copy}
 use Rattle.scale.specs.declared.physical.Scheme.TheVariants as Scheme
@@ -46,7 +48,6 @@ copied file k post j h = ap₂ (λ flag value. legacy_level flag value post) (by
 
 -- functions that agree below 16 agree on codes that have levels
 map_same : {A : Type 0} {f g : ℕ → A} (l : List ℕ) → all has_level l ≡ true → ((j : ℕ) → j < 16 → f j ≡ g j) → map f l ≡ map g l
-unfolding all
 map_same [] e h = refl
 map_same (x ∷ l) e h = let w = both (has_level x) (all has_level l) e in ap₂ ◌∷◌ (h x (ltb-true x 16 w.0)) (map_same l w.1 h)
 
@@ -66,17 +67,17 @@ same_levels file block post = by (threshold_place file block)
     by : (r : Result ℕ)
         → then (then r λ k. accepted (Scaling.Legacy k post)) (λ v. accepted (map (value_of v file) sixteen))
         ≡ then r λ _. accepted (map (level_at (threshold_bytes file r) 0 post) sixteen)
-    by (accepted k) = ap accepted (map_same sixteen (unfold all in refl) (value_is file k post))
+    by (accepted k) = ap accepted (map_same sixteen refl (value_is file k post))
     by (refused x) = refl
 
 -- the only refusal is 3 with index 22
 pub only_3 : (file : List ℕ) (block : ℕ) (x : Refusal) → threshold_place file block ≡ refused x → x ≡ kind 3 (nat 22 ∷ [])
-unfolding threshold_place
-only_3 file block x e = by (ltb (length file) (block + 2 * (22 - 1) + 32)) refl
+unfolding threshold_place field_at
+only_3 file block x e = by (ltb (length file) (block + 2 * (22 - 1) + 32)) e
   where
-    by : (b : Bool) → ltb (length file) (block + 2 * (22 - 1) + 32) ≡ b → x ≡ kind 3 (nat 22 ∷ [])
-    by true h = one_refusal (sym e ∙ sym (field_out (length file) block 22 32 (λ z. omega (arith, z)) (ltb-true _ _ h)))
-    by false h = clash _ x (sym e ∙ sym (field_in (length file) block 22 32 (λ z. omega (arith, z)) (ltb-false _ _ h)))
+    by : (b : Bool) → refuse b (kind 3 (nat 22 ∷ [])) (accepted (block + 2 * (22 - 1))) ≡ refused x → x ≡ kind 3 (nat 22 ∷ [])
+    by true h = one_refusal (sym h)
+    by false h = clash _ x (sym h)
 
 -- every code's value, where the thresholds are there
 pub same_values : (file : List ℕ) (block : ℕ) (post : Float) (k : ℕ) → threshold_place file block ≡ accepted k
@@ -103,8 +104,8 @@ refused_too file block post x e = rw e
 
 -- a block start at the end of 64 bits is not taken round
 pub far : levels_in_file (replicate 64 0) 18446744073709551615 (f32 1 1) ≡ refused (kind 3 (nat 22 ∷ []))
-unfolding levels_in_file threshold_place
-far = rw (refused_too (replicate 64 0) 18446744073709551615 (f32 1 1) _ (sym (field_out 64 18446744073709551615 22 32 (λ z. omega (arith, z)) (omega arith))))
+unfolding levels_in_file scale_fields threshold_place field_at
+far = refl
 
 -- ---- any calls
 
@@ -124,13 +125,29 @@ pub record Decoding : Type 0 where
   pub last : AtExit (ended_of 1 decoding-kinds.ps decoding-kinds.r) lifetimes
   pub allowed : decoding-reads.Post lifetimes given answer last
 
+-- Levels by a copy's bytes are those by the place that it was made from, or both are refused.
+agreed : (r : Result ℕ) (file : List ℕ) (post : Float) (a : Std.Result (List ℕ) Level3DecodeError) (l : List Float)
+    → answer_of a ≡ then r (λ k. accepted (thirty_two file k)) → ((bytes : List ℕ) → a ≡ Ok bytes → levels_of bytes 0 post ≡ l)
+    → then r (λ _. accepted (levels_of (threshold_bytes file r) 0 post)) ≡ then (answer_of a) (λ _. accepted l)
+agreed (accepted k) file post (Ok bytes) l e h = ap accepted (ap (λ (b : List ℕ). levels_of b 0 post) (sym (one_value e)) ∙ h bytes refl)
+agreed (accepted k) file post (Err x) l e h = clash _ _ e
+agreed (refused y) file post (Ok bytes) l e h = clash _ _ (sym e)
+agreed (refused y) file post (Err x) l e h = ap refused (one_refusal (sym e))
+
 -- One copies the thresholds, the other decodes the copy.
-module _ (c : Copying) (d : Decoding) (handed : d.given.0.now ≡ c.answer.«data») where
-  pub decoded : levels_of (threshold_bytes c.given.0.now (threshold_place c.given.0.now c.given.1.0)) 0 d.given.1.0 ≡ d.answer
-  decoded = ap (λ (b : List ℕ). levels_of b 0 d.given.1.0) (sym (handed ∙ c.allowed.1)) ∙ sym d.allowed
+module _ (c : Copying) (d : Decoding) where
+  pub decoded : (bytes : List ℕ) → c.answer ≡ Ok bytes → d.given.0.now ≡ bytes
+      → levels_of (threshold_bytes c.given.0.now (threshold_place c.given.0.now c.given.1.0)) 0 d.given.1.0 ≡ d.answer
+  unfolding thresholds
+  decoded bytes is handed =
+      through (threshold_place c.given.0.now c.given.1.0) _ bytes (sym c.allowed ∙ ap answer_of is) λ k p e.
+      ap (λ (b : List ℕ). levels_of b 0 d.given.1.0) (ap (threshold_bytes c.given.0.now) p ∙ one_value e ∙ sym handed) ∙ sym d.allowed
 
   -- the levels in the file are those, or both are refused
-  pub calls_agree : levels_in_file c.given.0.now c.given.1.0 d.given.1.0 ≡ then (place c.answer.place) λ _. accepted d.answer
-  unfolding levels_of_copy
-  calls_agree =
-      same_levels c.given.0.now c.given.1.0 d.given.1.0 ∙ ap₂ (λ r (l : List Float). then r λ _. accepted l) (sym c.allowed.0) decoded
+  pub calls_agree : ((bytes : List ℕ) → c.answer ≡ Ok bytes → d.given.0.now ≡ bytes)
+      → levels_in_file c.given.0.now c.given.1.0 d.given.1.0 ≡ then (answer_of c.answer) λ _. accepted d.answer
+  unfolding levels_of_copy thresholds
+  calls_agree handed =
+      same_levels c.given.0.now c.given.1.0 d.given.1.0
+      ∙ agreed (threshold_place c.given.0.now c.given.1.0) c.given.0.now d.given.1.0 c.answer d.answer c.allowed
+      (λ bytes is. ap (λ (b : List ℕ). levels_of b 0 d.given.1.0) (sym (handed bytes is)) ∙ sym d.allowed)

@@ -1,6 +1,5 @@
 pub mod Scaling
 pub mod Legacy
-pub mod Outcome
 pub mod Pdb
 pub mod Physical
 pub mod Thresholds

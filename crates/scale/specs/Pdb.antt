@@ -42,7 +42,14 @@ precip_family_scale file block factor =
 unfoldable pub threshold_place : List ℕ → ℕ → Result ℕ
 threshold_place file block = field_at (length file) block 22 32
 
--- a copy of them; zeros after a refusal
+abbrev pub thirty_two : List ℕ → ℕ → List ℕ
+thirty_two file k = take 32 (drop k file)
+
+-- a copy of them, or the refusal of their place
+unfoldable pub thresholds : List ℕ → ℕ → Result (List ℕ)
+thresholds file block = then (threshold_place file block) λ k. accepted (thirty_two file k)
+
+-- their bytes by the answer for their place; zeros where that is a refusal
 abbrev pub threshold_bytes : List ℕ → Result ℕ → List ℕ
-threshold_bytes file (accepted k) = take 32 (drop k file)
+threshold_bytes file (accepted k) = thirty_two file k
 threshold_bytes file (refused x) = replicate 32 0

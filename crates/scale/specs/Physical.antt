@@ -1,15 +1,14 @@
 -- The physical value of a code under a scheme and the file's bytes: `physical_of`. A value is minimum + (code - floor) × step.
-use Rattle.std.specs.Prelude.{ℕ, ◌+◌, ◌-◌, ◌≤◌, List, [], ◌∷◌, map, ◌++◌, Bool, cond, length, get_or, drop, pos, ltb, eqb, Float}
+use Rattle.std.specs.Prelude.{ℕ, ◌+◌, ◌-◌, ◌≤◌, ◌<◌, ◌≡◌, List, [], ◌∷◌, map, ◌++◌, Bool, cond, length, get_or, drop, pos, ltb, eqb, Option, Some, None, Float}
 use Rattle.std.specs.Float.{nan}
 use Rattle.wire.specs.Float.{whole32, ◌⊕◌, ◌⊗◌}
 use Rattle.wire.specs.Refusal.{kind, buffer}
 use Rattle.wire.specs.Result.{Result, accepted, refused, refuse, then}
 use Rattle.wire.specs.declared.error.Buffer.TheVariants as Buffer
-use Rattle.scale.specs.declared.scaling.Ceiling.{Ceiling}
 use Rattle.scale.specs.declared.scaling.PrecipScale.{PrecipScale}
 use Rattle.scale.specs.declared.physical.Scheme.{Scheme}
 use Rattle.scale.specs.declared.physical.Scaling.{Scaling}
-use Rattle.scale.specs.declared.physical.Declared.{Declared}
+use Rattle.scale.specs.declared.scaling.DeclaredLinearScale.{DeclaredLinearScale}
 use Rattle.scale.specs.Scaling.{valid, linear_declared, precip_declared}
 use Rattle.scale.specs.Legacy.{level_at}
 use Rattle.scale.specs.Pdb.{value_scaling_linear_hw, value_scaling_float, precip_family_scale, threshold_place}
@@ -23,22 +22,22 @@ scale_fields (Scheme.Legacy post) file block = then (threshold_place file block)
 scale_fields Scheme.Class file block = accepted Scaling.Class
 
 -- the scale that is declared; legacy and class declare none
-unfoldable pub declared_scale : Scaling → Result Declared
-declared_scale (Scaling.Linear s) = then (linear_declared s) λ d. accepted (Declared.Scale d)
-declared_scale (Scaling.Precip p) = accepted (Declared.Scale (precip_declared p))
-declared_scale (Scaling.Legacy k post) = accepted Declared.Absent
-declared_scale Scaling.Class = accepted Declared.Absent
+unfoldable pub declared_scale : Scaling → Result (Option DeclaredLinearScale)
+declared_scale (Scaling.Linear s) = then (linear_declared s) λ d. accepted (Some d)
+declared_scale (Scaling.Precip p) = accepted (Some (precip_declared p))
+declared_scale (Scaling.Legacy k post) = accepted None
+declared_scale Scaling.Class = accepted None
 
 -- linear where the code is valid, and NaN where it is not
-abbrev pub value_in : Float → Float → ℕ → Ceiling → ℕ → Float
+abbrev pub value_in : Float → Float → ℕ → Option ℕ → ℕ → Float
 value_in m step floor ceiling code = cond (valid floor ceiling code) (m ⊕ whole32 (pos (code - floor)) ⊗ step) nan
 
 -- from the floor on, and from the floor to the top
 abbrev pub open_value : Float → Float → ℕ → ℕ → Float
-open_value m step floor = value_in m step floor Ceiling.Absent
+open_value m step floor = value_in m step floor None
 
 abbrev pub capped_value : Float → Float → ℕ → ℕ → ℕ → Float
-capped_value m step floor top = value_in m step floor (Ceiling.At top)
+capped_value m step floor top = value_in m step floor (Some top)
 
 -- precipitation
 abbrev pub precip_value : PrecipScale → ℕ → Float
@@ -77,6 +76,10 @@ physical_of scheme file block = valued (scale_fields scheme file block) file
 -- a buffer whose front holds the values of the codes
 abbrev pub filled : (ℕ → Float) → List ℕ → List Float → List Float
 filled value codes old = map value codes ++ drop (length codes) old
+
+-- what a function may answer at each of the codes is f of it
+abbrev pub Gives : (ℕ → Float → Type 0) → (ℕ → Float) → List ℕ → Type 0
+Gives post f codes = (k : ℕ) (r : Float) → k < length codes → post (get_or codes k 0) r → r ≡ f (get_or codes k 0)
 
 -- the thresholds of a legacy scaling stand inside the file
 abbrev pub Ready : Scaling → List ℕ → Type 0

@@ -1,13 +1,11 @@
 -- pdb.rs and mod.rs: scales out of numbers, and the scale that a product declares. Each float operation rounds once, in the written order.
-use Rattle.std.specs.Prelude.{ℕ, zero, suc, ◌+◌, ◌-◌, [], ◌∷◌, Bool, not, ◌&&◌, cond, ℤ, pos, leb, eqb, Float}
+use Rattle.std.specs.Prelude.{ℕ, zero, suc, ◌+◌, ◌-◌, [], ◌∷◌, Bool, not, ◌&&◌, cond, ℤ, pos, leb, eqb, Option, Some, None, Float}
 use Rattle.std.specs.Float.Ieee.{neg, eq, le}
 use Rattle.std.specs.Float.Ieee.Scale.{finite}
 use Rattle.wire.specs.Float.{f32, whole32, ◌⊕◌, ◌⊖◌, ◌⊗◌, ◌⊘◌}
 use Rattle.wire.specs.Refusal.{kind, float}
 use Rattle.wire.specs.Result.{Result, accepted, refuse}
 use Rattle.scale.specs.declared.scaling.LinearScale.{LinearScale}
-use Rattle.scale.specs.declared.scaling.Ceiling.{Ceiling}
-use Rattle.scale.specs.declared.scaling.Ceiling.TheVariants.{At, Absent}
 use Rattle.scale.specs.declared.scaling.PrecipScale.{PrecipScale}
 use Rattle.scale.specs.declared.scaling.DeclaredLinearScale.{DeclaredLinearScale}
 
@@ -32,16 +30,16 @@ abbrev pub floor_of : ℕ → ℕ → ℕ → ℕ
 floor_of largest leading trailing = cond (plausible largest leading trailing) leading 1
 
 -- the highest valid code: `-` of ℕ stops at 0
-abbrev pub ceiling_of : ℕ → ℕ → ℕ → Ceiling
-ceiling_of largest leading trailing = cond (plausible largest leading trailing) (At (largest - trailing)) Absent
+abbrev pub ceiling_of : ℕ → ℕ → ℕ → Option ℕ
+ceiling_of largest leading trailing = cond (plausible largest leading trailing) (Some (largest - trailing)) None
 
 -- a code is valid from the floor up to the ceiling, where there is one: it has a value, counts in totals and is a level
-abbrev pub valid : ℕ → Ceiling → ℕ → Bool
-valid floor (At top) code = leb floor code && leb code top
-valid floor Absent code = leb floor code
+abbrev pub valid : ℕ → Option ℕ → ℕ → Bool
+valid floor (Some top) code = leb floor code && leb code top
+valid floor None code = leb floor code
 
 -- step factor / scale, zero point (-offset × factor) / scale, minimum floor × step + zero point
-abbrev pub scaled : Float → Float → Float → ℕ → Ceiling → PrecipScale
+abbrev pub scaled : Float → Float → Float → ℕ → Option ℕ → PrecipScale
 scaled scale offset factor floor ceiling = record {
   value_min = whole32 (pos floor) ⊗ (factor ⊘ scale) ⊕ neg offset ⊗ factor ⊘ scale;
   value_increment = factor ⊘ scale;
@@ -55,7 +53,7 @@ count p zero = 0
 count p (suc n) = count p n + cond (p n) 1 0
 
 -- the level count of the precipitation family: how many of the codes 0 to 65,535 are valid
-unfoldable pub level_count : ℕ → Ceiling → ℕ
+unfoldable pub level_count : ℕ → Option ℕ → ℕ
 level_count floor ceiling = count (valid floor ceiling) 65536
 
 -- halfword and float: floor 2; 9 where the step is at or below 0, which a NaN is not

@@ -44,23 +44,20 @@ pub(crate) fn unscaled_levels(t: &[u8], at: usize) -> [f32; 16]
     ensures { result ≡ unscaled_levels t.now at }
 {
     let mut levels = [0.0f32; 16];
-    let mut k = 0usize;
-    while k < 16 {
+    for k in 0..16 {
         levels[k] = unscaled_level(t[at + 2 * k], t[at + 2 * k + 1]);
-        k += 1usize;
     }
     levels
 }
 
+// A `for`: what an array's `map` promises does not show that its closure stays the same from call to call.
 pub fn decode_legacy16(threshold_data: &[u8; 32], post_scale: f32) -> [f32; 16]
     ensures { result ≡ levels_of threshold_data.now 0 post_scale }
 {
     let unscaled = unscaled_levels(threshold_data, 0);
     let mut levels = [0.0f32; 16];
-    let mut k = 0usize;
-    while k < 16 {
+    for k in 0..16 {
         levels[k] = unscaled[k] * post_scale;
-        k += 1usize;
     }
     levels
 }

@@ -1,11 +1,11 @@
 -- Laws for the two loops over digits: halving, and the number that a text makes. Assumes nothing.
-use Rattle.std.proofs.Common.{◌≡◌, ℕ, suc, ◌+◌, ◌-◌, ◌*◌, ◌/◌, ◌^◌, ◌<◌, ◌≤◌, List, ◌∷◌, length, get_or, drop, sym, refl, ap, ◌∙◌, div-one, add-one, arith, drop-cons, le-ltb, lt-ltb, le-leb}
+use Rattle.std.proofs.Common.{◌≡◌, ℕ, true, false, suc, ◌+◌, ◌-◌, ◌*◌, ◌/◌, ◌^◌, ◌<◌, ◌≤◌, List, ◌∷◌, length, get_or, drop, sym, refl, ap, ◌∙◌, div-one, add-one, arith, drop-cons, le-ltb, lt-ltb, le-leb}
 use native.Mathlib.Nat.{div-div-eq-div-mul, pow-succ'}
 use lib.Seq.{drop-length}
 use borrow.Author.Tests.{lt-leb}
+use Rattle.std.specs.Prelude.{Option, Some, None}
 use Rattle.show.specs.Rounded.{rounded}
-use Rattle.show.specs.Words.{number_from}
-use Rattle.show.specs.declared.words.Number.TheVariants.{Value, Bad}
+use Rattle.show.specs.Words.{is_digit, number_from}
 
 -- what is left of the halving gives the whole's result
 pub record Halving (n s half left : ℕ) : Type 0 where
@@ -44,23 +44,19 @@ module _ {n : ℕ} {s : List ℕ} {value i b : ℕ} (w : Reading n s value i) (m
   here : number_from value (b ∷ drop (i + 1) s) ≡ number_from n s
   here = rw (known, add-one, ← drop-cons s i 0 more) w.same
 
-  pub reading_below : b < 48 → Bad ≡ number_from n s
+  pub reading_bad : is_digit b ≡ false → None ≡ number_from n s
   unfolding number_from
-  reading_below h = sym (simp (lt-leb _ _ h)) ∙ here
+  reading_bad e = sym (simp e) ∙ here
 
-  pub reading_above : 57 < b → Bad ≡ number_from n s
+  pub reading_long : is_digit b ≡ true → 999999999999999 < value * 10 + (b - 48) → None ≡ number_from n s
   unfolding number_from
-  reading_above h = let k : 48 ≤ b = omega arith in sym (simp (le-leb _ _ k, lt-leb _ _ h)) ∙ here
+  reading_long e l = sym (simp (e, lt-ltb _ _ l)) ∙ here
 
-  pub reading_long : 48 ≤ b → b ≤ 57 → 999999999999999 < value * 10 + (b - 48) → Bad ≡ number_from n s
+  pub reading_next : is_digit b ≡ true → value * 10 + (b - 48) ≤ 999999999999999 → Reading n s (value * 10 + (b - 48)) (i + 1)
   unfolding number_from
-  reading_long k h l = sym (simp (le-leb _ _ k, le-leb _ _ h, lt-ltb _ _ l)) ∙ here
+  reading_next e l = record { inside = omega arith; small = l; same = sym (simp (e, le-ltb _ _ l)) ∙ here }
 
-  pub reading_next : 48 ≤ b → b ≤ 57 → value * 10 + (b - 48) ≤ 999999999999999 → Reading n s (value * 10 + (b - 48)) (i + 1)
-  unfolding number_from
-  reading_next k h l = record { inside = omega arith; small = l; same = sym (simp (le-leb _ _ k, le-leb _ _ h, le-ltb _ _ l)) ∙ here }
-
-pub reading_end : {n : ℕ} {s : List ℕ} {value i : ℕ} → Reading n s value i → length s ≤ i → Value value ≡ number_from n s
+pub reading_end : {n : ℕ} {s : List ℕ} {value i : ℕ} → Reading n s value i → length s ≤ i → Some value ≡ number_from n s
 unfolding number_from
 reading_end {n} {s} {value} {i} w h =
     let e : i ≡ length s = omega (arith, w.inside) in

@@ -6,17 +6,17 @@ use lib.ListN.{length-map}
 use lib.Seq.{take-length, take-append-le}
 use Rattle.wire.specs.Refusal.{Refusal}
 use Rattle.wire.specs.declared.error.Level3DecodeError.{Level3DecodeError}
-use Rattle.wire.specs.Result.{Result, accepted, refused, then, lent}
+use Rattle.wire.specs.Result.{Result, accepted, answer, refused, then, lent}
 use Rattle.scale.specs.Physical.{physical_of, fill_of}
-use Rattle.scale.specs.declared.physical.Declared.{Declared}
+use Rattle.scale.specs.declared.scaling.DeclaredLinearScale.{DeclaredLinearScale}
+use Rattle.std.specs.Prelude.{Option, Ok, Err}
 use Rattle.scale.specs.declared.physical.Scheme.{Scheme}
 use Rattle.symbology.specs.Answers.{decode_for}
 use Rattle.symbology.specs.declared.figures.Figures.{Figures}
 use Rattle.symbology.specs.declared.figures.Terms.{Terms}
 use Rattle.sweep.specs.declared.plan.Head.{Head}
 use Rattle.sweep.specs.declared.sweep.Sweep.{Sweep}
-use Rattle.sweep.specs.declared.sweep.SweepAnswer.{SweepAnswer}
-use Rattle.sweep.specs.Sweep.{Accepted, sweep_of, sweep_in, answer_of, sweep_with, buffers, Ran}
+use Rattle.sweep.specs.Sweep.{Accepted, sweep_of, sweep_in, SweepAnswer, sweep_with, buffers, Ran}
 use Rattle.show.specs.InPart.{ReadInPart}
 use Rattle.sweep.proofs.Parts.{block_start, parts, sizes}
 use Rattle.sweep.proofs.Reading as reading
@@ -80,12 +80,12 @@ module _ (scheme : Scheme) (file : List ℕ) (clock : ℕ) (body : List ℕ) (az
       }
 
   -- a refusal there is one here, and writes nothing
-  pub refuses : {x : Level3DecodeError} {az' values : List Float} {cs' : List ℕ} → Told (SweepAnswer.Refused x) az' cs' values → Reads (SweepAnswer.Refused x) az' cs' ph
+  pub refuses : {x : Level3DecodeError} {az' values : List Float} {cs' : List ℕ} → Told (Err x) az' cs' values → Reads (Err x) az' cs' ph
   refuses t = reads t (sym (ap (λ d. lent d (λ p. take (length ph) p.physical) ph) (sym same ∙ refused_sweep _ t.answered)))
 
 -- ---- after symbology's entry has accepted
 
-module _ {scheme : Scheme} {file : List ℕ} {clock : ℕ} {body : List ℕ} {az : List Float} {cs : List ℕ} (ph : List Float) {h : Head} {d : Result Declared} {t : Terms} {f : Figures}
+module _ {scheme : Scheme} {file : List ℕ} {clock : ℕ} {body : List ℕ} {az : List Float} {cs : List ℕ} (ph : List Float) {h : Head} {d : Result (Option DeclaredLinearScale)} {t : Terms} {f : Figures}
     (w : reading.Decoded scheme file clock body az cs (full cs) h d t f) {cs' : List ℕ} (c : cs' ≡ lent (decode_for t body (length az) (length cs)) (λ p. p.codes) cs) where
   abbrev Z : Result Accepted
   Z = sweep_of scheme file clock body (length az) (length cs) (length (full cs))
@@ -93,7 +93,7 @@ module _ {scheme : Scheme} {file : List ℕ} {clock : ℕ} {body : List ℕ} {az
   -- the answer on the long buffer, and the sweep that it is of
   on_full : (accepted (record { token = h.token; fields = h.fields; time = h.time; declared = (reading.drawn_here w).admitted.declared; figures = f }) ≡ sweep_in Z)
       × (cs' ≡ lent Z (λ p. p.codes) cs)
-  on_full = let t : Ran scheme file clock body (buffers az cs (full cs)) (buffers _ cs' _) (SweepAnswer.Accepted (record { token = h.token; fields = h.fields; time = h.time; declared = (reading.drawn_here w).admitted.declared; figures = f })) =
+  on_full = let t : Ran scheme file clock body (buffers az cs (full cs)) (buffers _ cs' _) (Ok (record { token = h.token; fields = h.fields; time = h.time; declared = (reading.drawn_here w).admitted.declared; figures = f })) =
       reading.read w c (ap (λ y. sweep_with h y f) (sym (reading.drawn_here w).admitted.declares)) refl refl in (t.answered, t.codes)
 
   found : (q : Accepted) × (Z ≡ accepted q) × (q.sweep ≡ record { token = h.token; fields = h.fields; time = h.time; declared = (reading.drawn_here w).admitted.declared; figures = f })
@@ -139,7 +139,7 @@ module _ {scheme : Scheme} {file : List ℕ} {clock : ℕ} {body : List ℕ} {az
         let z : ◌≡◌ {A = ℕ} 0 1 = cc in
         absurd (omega arith)
 
-    pub read : {r : SweepAnswer} {az' ph' : List Float} → answer_of r ≡ sweep_with h d f
+    pub read : {r : SweepAnswer} {az' ph' : List Float} → answer r ≡ sweep_with h d f
         → az' ≡ lent (decode_for t body (length az) (length cs)) (λ p. p.azimuths) az
         → ph' ≡ lent (fill_of scheme file h.block (take n cs') (length ph)) (λ values. values) ph
         → Reads scheme file clock body az cs ph r az' cs' ph'

@@ -12,10 +12,6 @@ not_negative {y} {z} known f t = rw known (fits z f (rw known at t))
     fits (pos n) f t = (tt, record { fits = omega (arith, f.sfits) })
     fits (negsuc n) f t = let z : ◌≡◌ {A = ℕ} 0 1 = cc in absurd (omega arith)
 
--- sixteen bits fit thirty-two
-pub wider : {y z : ℤ} → y ≡ z → SFits w16 z → SFits w32 y
-wider {y} {z} known f = rw known (record { sfits = omega (arith, f.sfits) })
-
 -- the distance from 0: of a negative number by its complement, of any other as it is
 pub below_0 : (z : ℤ) → SFits w32 z → lt_z (to_z w32 (of_z w32 z)) (pos 0) ≡ true → at_least0 (to_z w32 (4294967295 - of_z w32 z)) + 1 ≡ nat_abs z
 below_0 (pos n) f t = absurd (omega (arith, ltb-true n 0 (rw (to_z-of_z {w = w32} {z = pos n} f) at t)))

@@ -4,10 +4,9 @@ ghost use Rattle.sweep.specs.Sweep.{buffers};
 ghost use Rattle.show.specs.InPart.{ReadInPart};
 
 use crate::text::Text;
-use scale::physical::{DeclaredScaleRead, Filled, Scheme};
-use sweep::plan::HeadRead;
-use sweep::sweep::{Sweep, SweepAnswer};
-use symbology::figures::FiguresRead;
+use scale::physical::Scheme;
+use sweep::sweep::Sweep;
+use wire::error::Level3DecodeError;
 
 // The sweep reading as it is with room for as many physical values as codes. `values` gets those that it has room for, the first ones.
 fn read(
@@ -18,39 +17,25 @@ fn read(
     azimuths: &mut [f64],
     codes: &mut [u16],
     values: &mut [f32],
-) -> SweepAnswer
+) -> Result<Sweep, Level3DecodeError>
     ensures { ReadInPart scheme file.now clock body.now
         (buffers azimuths.old codes.old values.old)
         (buffers azimuths.new codes.new values.new) result }
 {
-    let head = match sweep::plan::read_head(scheme, file, clock) {
-        HeadRead::Value(h) => h,
-        HeadRead::Refused(e) => return SweepAnswer::Refused(e),
-    };
-    let scaling = head.scaling;
-    let declared = scale::physical::declared_scale(scaling);
-    let terms = sweep::plan::terms_for(scaling, codes.len());
-    let figures = match symbology::symbology::decode_for(body, terms, azimuths, codes) {
-        FiguresRead::Value(f) => f,
-        FiguresRead::Refused(e) => return SweepAnswer::Refused(e),
-    };
+    let head = sweep::plan::read_head(scheme, file, clock)?;
+    let terms = sweep::plan::terms_for(head.scaling, codes.len());
+    let figures = symbology::symbology::decode_for(body, terms, azimuths, codes)?;
     let cells = figures.n_radials * figures.n_bins;
-    let n = crate::picture::least(cells, values.len());
-    match scale::physical::fill_physical(scheme, file, head.block, &codes[..n], values) {
-        Filled::Refused(e) => return SweepAnswer::Refused(e),
-        Filled::Done => {}
-    }
-    let fields = head.fields;
-    match declared {
-        DeclaredScaleRead::Refused(e) => SweepAnswer::Refused(e),
-        DeclaredScaleRead::Value(d) => SweepAnswer::Accepted(Sweep {
-            token: head.token,
-            fields,
-            time: head.time,
-            declared: d,
-            figures,
-        }),
-    }
+    let n = cells.min(values.len());
+    scale::physical::fill_physical(scheme, file, head.block, &codes[..n], values)?;
+    let declared = scale::physical::declared_scale(head.scaling)?;
+    Ok(Sweep {
+        token: head.token,
+        fields: head.fields,
+        time: head.time,
+        declared,
+        figures,
+    })
 }
 
 // How many marks are shown: none without gaps.
@@ -72,7 +57,7 @@ fn read_asked(
     codes: &mut [u16],
     physical: &mut [f32],
     marks: &mut [u8],
-) -> SweepAnswer {
+) -> Result<Sweep, Level3DecodeError> {
     if gaps {
         return sweep::with_gaps::read_sweep_with_gaps(
             file, clock, scheme, body, azimuths, codes, physical, marks,
@@ -113,11 +98,11 @@ pub fn show(
         &mut physical,
         &mut marks,
     ) {
-        SweepAnswer::Refused(e) => {
+        Err(e) => {
             crate::refusals::print(out, e);
             Ending::Refused
         }
-        SweepAnswer::Accepted(s) => {
+        Ok(s) => {
             let n = shown_marks(gaps);
             crate::picture::print(out, s, file, &azimuths, &codes, &physical, &marks[..n]);
             Ending::Shown

@@ -12,8 +12,6 @@ pub enum Loaded {
     Whole(usize),
     // More than the array holds; it is full.
     Part(usize),
-    // Standard error says why.
-    Failed,
 }
 
 // n, or the array's length where that is less.
@@ -21,7 +19,7 @@ pub fn within(n: usize, buf: &[u8]) -> usize
     ensures value { result ≡ min n (length buf.now) }
     ensures prefix_len { IsPrefixLen result buf.now }
 {
-    if n <= buf.len() { n } else { buf.len() }
+    n.min(buf.len())
 }
 
 // What follows once the array is full.
@@ -58,13 +56,13 @@ fn open_and_read(rt: &impl Files, path: &str, buf: &mut [u8]) -> io::Result<Load
     read_all(&mut file, buf)
 }
 
-// The file at a path, from the array's start on.
-pub fn load<R: Files + Eprint>(rt: &R, path: &str, buf: &mut [u8]) -> Loaded {
+// The file at a path, from the array's start on. Where it can't be read, standard error says why.
+pub fn load<R: Files + Eprint>(rt: &R, path: &str, buf: &mut [u8]) -> Option<Loaded> {
     match open_and_read(rt, path, buf) {
-        Ok(loaded) => loaded,
+        Ok(loaded) => Some(loaded),
         Err(e) => {
             let _ = eprintln!(rt; "show: {path}: {e}");
-            Loaded::Failed
+            None
         }
     }
 }

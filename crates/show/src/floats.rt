@@ -130,7 +130,7 @@ fn print_size(out: &mut Text, negative: bool, size: Size, width: usize) {
 
 // An f64 with three decimals at the right end of a column.
 pub fn double(out: &mut Text, x: f64, width: usize) {
-    if x != x {
+    if x.is_nan() {
         crate::text::right(out, b"nan", width);
         return;
     }
@@ -152,7 +152,7 @@ fn wide(x: u32) -> u64
 
 // An f32 with six decimals.
 pub fn fine(out: &mut Text, x: f32, width: usize) {
-    if x != x {
+    if x.is_nan() {
         crate::text::right(out, b"nan", width);
         return;
     }
@@ -175,7 +175,7 @@ pub fn fine(out: &mut Text, x: f32, width: usize) {
 
 // A cell's value: - where it has none.
 pub fn cell(out: &mut Text, x: f32, width: usize) {
-    if x != x {
+    if x.is_nan() {
         crate::text::right(out, b"-", width);
         return;
     }

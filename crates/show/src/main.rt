@@ -10,7 +10,6 @@ ghost use Rattle.std.specs.Prelude.{◌≡◌};
 ghost use Rattle.show.specs.Endings.{status_of};
 
 use scale::physical::Scheme;
-use sweep::plan::HeadRead;
 
 mod answer;
 mod buffers;
@@ -30,7 +29,7 @@ use std::io;
 use std::process::ExitCode;
 use std::rt::Clock;
 use text::Text;
-use words::{ClockWord, SchemeWord};
+use words::{BadScheme, NoClock};
 
 fn print_usage(rt: &impl Eprint) {
     text::warn(rt, "usage: show FILE [BODY SCHEME [CLOCK] [gaps]]\n");
@@ -80,15 +79,14 @@ fn run<R: Files + Eprint>(
 ) -> Ending {
     let mut file = buffers::file_bytes();
     let file_len = match files::load(rt, file_name, &mut file) {
-        Loaded::Failed => return Ending::Failed,
-        Loaded::Whole(n) => n,
-        Loaded::Part(n) => n,
+        Some(Loaded::Whole(n)) | Some(Loaded::Part(n)) => n,
+        None => return Ending::Failed,
     };
     let mut body = buffers::body_bytes();
     let body_len = match files::load(rt, body_name, &mut body) {
-        Loaded::Failed => return Ending::Failed,
-        Loaded::Whole(n) => n,
-        Loaded::Part(_) => {
+        Some(Loaded::Whole(n)) => n,
+        None => return Ending::Failed,
+        Some(Loaded::Part(_)) => {
             text::warn(
                 rt,
                 "show: the body has more than 1400000 bytes, for which this program has no room;",
@@ -113,11 +111,11 @@ fn run<R: Files + Eprint>(
 // The head of a file; class has no scale fields, so that no scheme has a say.
 fn show_head(out: &mut Text, file: &[u8], clock: u64) -> Ending {
     match sweep::plan::read_head(Scheme::Class, file, clock) {
-        HeadRead::Refused(e) => {
+        Err(e) => {
             refusals::print(out, e);
             Ending::Refused
         }
-        HeadRead::Value(h) => {
+        Ok(h) => {
             picture::print_head(out, h, file);
             Ending::Shown
         }
@@ -127,9 +125,8 @@ fn show_head(out: &mut Text, file: &[u8], clock: u64) -> Ending {
 // The file's first bytes, and its head by the system's clock.
 fn run_head<R: Files + Clock + Eprint>(rt: &R, out: &mut Text, file_name: &str) -> Ending {
     let clock = match words::system_clock(rt) {
-        ClockWord::Value(t) => t,
-        ClockWord::Bad => return Ending::Failed,
-        ClockWord::Missing => {
+        Some(t) => t,
+        None => {
             text::warn(
                 rt,
                 "show: the system has no time; give BODY, SCHEME and CLOCK\n",
@@ -139,9 +136,8 @@ fn run_head<R: Files + Clock + Eprint>(rt: &R, out: &mut Text, file_name: &str) 
     };
     let mut file = buffers::file_bytes();
     let file_len = match files::load(rt, file_name, &mut file) {
-        Loaded::Failed => return Ending::Failed,
-        Loaded::Whole(n) => n,
-        Loaded::Part(n) => n,
+        Some(Loaded::Whole(n)) | Some(Loaded::Part(n)) => n,
+        None => return Ending::Failed,
     };
     let f = files::within(file_len, &file);
     show_head(out, &file[..f], clock)
@@ -167,13 +163,13 @@ fn run_words<R: Files + Clock + Eprint>(rt: &R, out: &mut Text, all: &[String]) 
         return Ending::Failed;
     }
     let scheme = match words::scheme_argument(all, 3) {
-        SchemeWord::Value(s) => s,
-        SchemeWord::Unknown => {
+        Ok(s) => s,
+        Err(BadScheme::Unknown) => {
             text::warn(rt, "show: SCHEME is not one of those below\n");
             print_usage(rt);
             return Ending::Failed;
         }
-        SchemeWord::BadNumber => {
+        Err(BadScheme::BadNumber) => {
             text::warn(
                 rt,
                 "show: the number in SCHEME is not one as described below\n",
@@ -183,8 +179,8 @@ fn run_words<R: Files + Clock + Eprint>(rt: &R, out: &mut Text, all: &[String]) 
         }
     };
     let clock = match words::clock_argument(rt, &all[..words], 4) {
-        ClockWord::Value(t) => t,
-        ClockWord::Bad => {
+        Ok(t) => t,
+        Err(NoClock::Bad) => {
             text::warn(
                 rt,
                 "show: CLOCK is not a whole number of at most 15 digits\n",
@@ -192,7 +188,7 @@ fn run_words<R: Files + Clock + Eprint>(rt: &R, out: &mut Text, all: &[String]) 
             print_usage(rt);
             return Ending::Failed;
         }
-        ClockWord::Missing => {
+        Err(NoClock::Missing) => {
             text::warn(rt, "show: the system has no time; give CLOCK\n");
             return Ending::Failed;
         }

@@ -1,11 +1,9 @@
 // An accepted sweep in words: what the file says, the scale, the figures, and the first cells of the first radials.
-ghost use Rattle.std.specs.Prelude.{◌≡◌, ◌<◌, ◌≤◌, min, ◌==◌};
+ghost use Rattle.std.specs.Prelude.{◌≡◌, ◌<◌, ◌≤◌, ◌==◌};
 ghost use Rattle.show.specs.Gaps.{one_if, marked as markedIn, gap_at};
 
 use crate::text::Text;
-use calendar::date::DateRead;
 use head::pdb::PdbFields;
-use scale::physical::Declared;
 use scale::scaling::DeclaredLinearScale;
 use sweep::plan::Head;
 use sweep::sweep::Sweep;
@@ -76,12 +74,12 @@ fn print_token(out: &mut Text, file: &[u8], at: usize) {
 fn date_line(out: &mut Text, days: u16) {
     label(out, b"scan date");
     match calendar::date::calendar_day(days) {
-        DateRead::Value(d) => {
+        Ok(d) => {
             let text = crate::dates::date_text(d);
             crate::text::right(out, &text, 16);
         }
         // Day 0, which no accepted head has.
-        DateRead::Refused(_) => crate::text::right(out, b"-", 16),
+        Err(_) => crate::text::right(out, b"-", 16),
     }
     crate::text::say(out, b"\n");
 }
@@ -97,19 +95,10 @@ fn time_line(out: &mut Text, seconds: i32) {
 fn print_fields(out: &mut Text, f: PdbFields, time: u64) {
     degrees_line(out, b"latitude", f.lat_thousandths, 1000);
     degrees_line(out, b"longitude", f.lon_thousandths, 1000);
-    height_line(out, crate::text::wide_signed(f.height_feet));
-    signed_line(
-        out,
-        b"product code",
-        crate::text::wide_signed(f.product_code),
-    );
+    height_line(out, i32::from(f.height_feet));
+    signed_line(out, b"product code", i32::from(f.product_code));
     whole_line(out, b"vcp", f.vcp as usize);
-    degrees_line(
-        out,
-        b"elevation",
-        crate::text::wide_signed(f.elevation_tenths),
-        10,
-    );
+    degrees_line(out, b"elevation", i32::from(f.elevation_tenths), 10);
     whole_line(out, b"scan days", f.scan_days as usize);
     signed_line(out, b"scan seconds", f.scan_seconds);
     label(out, b"scan time");
@@ -126,10 +115,10 @@ fn print_scale(out: &mut Text, s: DeclaredLinearScale) {
     whole_line(out, b"scale floor", s.data_floor_code as usize);
 }
 
-fn print_declared(out: &mut Text, d: Declared) {
-    match d {
-        Declared::Scale(s) => print_scale(out, s),
-        Declared::Absent => {
+fn print_declared(out: &mut Text, declared: Option<DeclaredLinearScale>) {
+    match declared {
+        Some(s) => print_scale(out, s),
+        None => {
             label(out, b"scale");
             crate::text::right(out, b"none", 16);
             crate::text::say(out, b"\n");
@@ -148,12 +137,10 @@ fn print_packet(out: &mut Text, p: Packet) {
 }
 
 fn print_figures(out: &mut Text, f: Figures) {
-    let packet = f.packet;
-    print_packet(out, packet);
+    print_packet(out, f.packet);
     whole_line(out, b"radials", f.n_radials);
     whole_line(out, b"bins", f.n_bins);
-    let geometry = f.geometry;
-    match geometry {
+    match f.geometry {
         Geometry::RangeScale(n) => whole_line(out, b"range scale", n as usize),
         Geometry::Gates {
             gate_width_m,
@@ -165,34 +152,20 @@ fn print_figures(out: &mut Text, f: Figures) {
     }
 }
 
-pub fn least(a: usize, b: usize) -> usize
-    ensures { result ≡ min a b }
-{
-    if a < b { a } else { b }
-}
-
 fn print_codes(out: &mut Text, codes: &[u16]) {
     crate::text::say(out, b"  codes ");
-    let mut i = 0usize;
-    while i < codes.len() {
+    for code in codes {
         crate::text::say(out, b" ");
-        crate::text::right_whole(out, wide(codes[i]), 8);
-        i += 1;
+        crate::text::right_whole(out, u64::from(*code), 8);
     }
     crate::text::say(out, b"\n");
 }
 
-fn wide(x: u16) -> u64 {
-    x as u64
-}
-
 fn print_values(out: &mut Text, physical: &[f32]) {
     crate::text::say(out, b"  values");
-    let mut i = 0usize;
-    while i < physical.len() {
+    for value in physical {
         crate::text::say(out, b" ");
-        crate::floats::cell(out, physical[i], 8);
-        i += 1;
+        crate::floats::cell(out, *value, 8);
     }
     crate::text::say(out, b"\n");
 }
@@ -210,10 +183,8 @@ fn marked(marks: &[u8]) -> usize
     ensures { result ≡ markedIn marks.now }
 {
     let mut n = 0usize;
-    let mut i = 0usize;
-    while i < marks.len() {
-        n += one_if(marks[i]);
-        i += 1;
+    for mark in marks {
+        n += one_if(*mark);
     }
     n
 }
@@ -276,26 +247,23 @@ fn print_radials(
     physical: &[f32],
     marks: &[u8],
 ) {
-    let n = least(bins, 8);
-    let shown = least(least(radials, 4), azimuths.len());
+    let n = bins.min(8);
     let mut at = 0usize;
-    let mut radial = 0usize;
-    while radial < shown {
+    for (radial, azimuth) in azimuths.iter().enumerate().take(radials.min(4)) {
         print_radial(
             out,
             radial,
-            azimuths[radial],
+            *azimuth,
             is_gap(marks, radial),
             at,
             n,
             codes,
             physical,
         );
-        if codes.len() - at < bins {
+        if codes.len().saturating_sub(at) < bins {
             return;
         }
         at += bins;
-        radial += 1;
     }
 }
 
@@ -309,11 +277,11 @@ fn is_over(radials: usize, bins: usize, room: usize) -> bool {
 
 fn print_extent(out: &mut Text, radials: usize, bins: usize) {
     crate::text::say(out, b"\nthe first ");
-    crate::text::size(out, least(radials, 4));
+    crate::text::size(out, radials.min(4));
     crate::text::say(out, b" of ");
     crate::text::size(out, radials);
     crate::text::say(out, b" radials, the first ");
-    crate::text::size(out, least(bins, 8));
+    crate::text::size(out, bins.min(8));
     crate::text::say(out, b" of ");
     crate::text::size(out, bins);
     crate::text::say(out, b" bins\n");
@@ -329,8 +297,7 @@ fn is_clear(radials: usize) -> bool
 // A head alone.
 pub fn print_head(out: &mut Text, h: Head, file: &[u8]) {
     print_token(out, file, h.token);
-    let fields = h.fields;
-    print_fields(out, fields, h.time);
+    print_fields(out, h.fields, h.time);
 }
 
 // A sweep. `marks` is empty where gaps were not asked for; else a mark past the last radial's is 0.
@@ -344,10 +311,8 @@ pub fn print(
     marks: &[u8],
 ) {
     print_token(out, file, s.token);
-    let fields = s.fields;
-    print_fields(out, fields, s.time);
-    let declared = s.declared;
-    print_declared(out, declared);
+    print_fields(out, s.fields, s.time);
+    print_declared(out, s.declared);
     let figures = s.figures;
     print_figures(out, figures);
     print_gaps(out, marks);

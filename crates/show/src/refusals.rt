@@ -118,13 +118,13 @@ fn print_body(out: &mut Text, e: Level3DecodeError) {
         }
         Level3DecodeError::BadSymbologyHeader { divider, block_id } => {
             kind(out, 13, b"BadSymbologyHeader");
-            signed(out, b"divider ", crate::text::wide_signed(divider));
-            signed(out, b" and block ", crate::text::wide_signed(block_id));
+            signed(out, b"divider ", i32::from(divider));
+            signed(out, b" and block ", i32::from(block_id));
             words(out, b", not -1 and 1");
         }
         Level3DecodeError::UnsupportedPacketCode { code } => {
             kind(out, 14, b"UnsupportedPacketCode");
-            signed(out, b"packet code ", crate::text::wide_signed(code));
+            signed(out, b"packet code ", i32::from(code));
         }
         _ => print_grid(out, e),
     }

@@ -49,7 +49,7 @@ pub fn warn(rt: &impl Eprint, s: &str) {
 pub fn left(width: usize, used: usize) -> usize
     ensures { result ≡ width - used }
 {
-    if used < width { width - used } else { 0 }
+    width.saturating_sub(used)
 }
 
 // Spaces up to a width of which some is used.
@@ -89,20 +89,11 @@ pub fn right_size(out: &mut Text, n: usize, width: usize) {
     right_whole(out, n as u64, width);
 }
 
-pub fn wide_signed(x: i16) -> i32
-    ensures { result ≡ x }
-{
-    x as i32
-}
-
-// The distance from 0: !z is -1 - z.
+// The distance from 0.
 pub fn distance(z: i32) -> usize
     ensures { (result ≡ unsigned_abs z) × (result ≤ 2147483648) }
 {
-    if z < 0 {
-        return xdr::xdr::at_least_0(!z) + 1;
-    }
-    xdr::xdr::at_least_0(z)
+    z.unsigned_abs() as usize
 }
 
 // A signed number.

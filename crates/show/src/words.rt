@@ -9,77 +9,45 @@ use scale::physical::Scheme;
 use std::rt::Clock;
 use std::time::{SystemTime, UNIX_EPOCH};
 
+// Why a word names no scheme.
 #[derive(Clone, Copy)]
-pub enum SchemeWord {
-    Value(Scheme),
+pub enum BadScheme {
     Unknown,
     BadNumber,
 }
 
+// Why there is no time: the word gives none, or the system has none.
 #[derive(Clone, Copy)]
-pub enum ClockWord {
-    Value(u64),
+pub enum NoClock {
     Bad,
     Missing,
 }
 
-// A whole number of at most 15 digits beside leading zeros.
-#[derive(Clone, Copy)]
-pub enum Number {
-    Value(u64),
-    Bad,
-}
-
-// A decimal number's nearest f32.
-#[derive(Clone, Copy)]
-pub enum Decimal {
-    Value(f32),
-    Bad,
-}
-
-fn wide(x: u8) -> u64
-    ensures { result ≡ x }
-{
-    x as u64
-}
-
-// The number that the digits of a text make after those of n.
-fn number_from(n: u64, text: &[u8]) -> Number
+// The number that the digits of a text make after those of n: of at most 15 digits beside leading zeros.
+fn number_from(n: u64, text: &[u8]) -> Option<u64>
     requires { n ≤ 999999999999999 }
     ensures { result ≡ number_from n text.now }
 {
     let mut value = n;
-    let mut i = 0usize;
-    while i < text.len() {
-        let b = wide(text[i]);
-        if b < 48 {
-            return Number::Bad;
+    for b in text {
+        if !b.is_ascii_digit() {
+            return None;
         }
-        if 57 < b {
-            return Number::Bad;
-        }
-        let more = value * 10 + (b - 48);
+        let more = value * 10 + u64::from(*b - 48);
         if 999999999999999 < more {
-            return Number::Bad;
+            return None;
         }
         value = more;
-        i += 1;
     }
-    Number::Value(value)
+    Some(value)
 }
 
 // The place of the first point, or the length.
+#[tactic(auto, unfolding(crate::specs::Words::point_at))]
 fn point(text: &[u8]) -> usize
     ensures { result ≡ point_at text.now }
 {
-    let mut i = 0usize;
-    while i < text.len() {
-        if text[i] == b'.' {
-            return i;
-        }
-        i += 1;
-    }
-    i
+    text.iter().take_while(|b| **b != b'.').count()
 }
 
 // 10^k, exact in f32 up to k = 10.
@@ -104,59 +72,52 @@ fn ten_to(k: usize) -> f32
 }
 
 // n / 10^k, rounded once: below 2^24 and up to 10^10 both are f32 exactly.
-fn quotient(n: u64, k: usize) -> Decimal
+#[tactic(auto, unfolding(crate::specs::Words::quotient_of))]
+fn quotient(n: u64, k: usize) -> Option<f32>
     ensures { result ≡ quotient_of n k }
 {
-    if 9999999 < n {
-        return Decimal::Bad;
+    if 9999999 < n || 10 < k {
+        return None;
     }
-    if 10 < k {
-        return Decimal::Bad;
-    }
-    Decimal::Value(std::num::nearest_u32_to_f32(n as u32) / ten_to(k))
+    Some(std::num::nearest_u32_to_f32(n as u32) / ten_to(k))
 }
 
-// The digits before the point and, where there is one, those after it.
-fn decimal_of(text: &[u8]) -> Decimal
+// A decimal number's nearest f32: the digits before the point and, where there is one, those after it.
+fn decimal_of(text: &[u8]) -> Option<f32>
     ensures { result ≡ decimal_of text.now }
 {
     let p = point(text);
     if p == 0 {
-        return Decimal::Bad;
+        return None;
     }
-    let whole = match number_from(0, &text[..p]) {
-        Number::Value(n) => n,
-        Number::Bad => return Decimal::Bad,
-    };
+    let whole = number_from(0, &text[..p])?;
     if p == text.len() {
         return quotient(whole, 0);
     }
     let after = p + 1;
     let k = text.len() - after;
     if k == 0 {
-        return Decimal::Bad;
+        return None;
     }
-    match number_from(whole, &text[after..]) {
-        Number::Value(n) => quotient(n, k),
-        Number::Bad => Decimal::Bad,
-    }
+    let n = number_from(whole, &text[after..])?;
+    quotient(n, k)
 }
 
-fn precipitation(text: &[u8]) -> SchemeWord
+fn precipitation(text: &[u8]) -> Result<Scheme, BadScheme>
     ensures { result ≡ with_number Scheme.Precipitation (decimal_of text.now) }
 {
     match decimal_of(text) {
-        Decimal::Value(factor) => SchemeWord::Value(Scheme::Precipitation { factor }),
-        Decimal::Bad => SchemeWord::BadNumber,
+        Some(factor) => Ok(Scheme::Precipitation { factor }),
+        None => Err(BadScheme::BadNumber),
     }
 }
 
-fn legacy(text: &[u8]) -> SchemeWord
+fn legacy(text: &[u8]) -> Result<Scheme, BadScheme>
     ensures { result ≡ with_number Scheme.Legacy (decimal_of text.now) }
 {
     match decimal_of(text) {
-        Decimal::Value(post_scale) => SchemeWord::Value(Scheme::Legacy { post_scale }),
-        Decimal::Bad => SchemeWord::BadNumber,
+        Some(post_scale) => Ok(Scheme::Legacy { post_scale }),
+        None => Err(BadScheme::BadNumber),
     }
 }
 
@@ -164,25 +125,22 @@ fn legacy(text: &[u8]) -> SchemeWord
 pub fn starts_with(word: &[u8], name: &[u8]) -> bool
     ensures { result ≡ begins name.now word.now }
 {
-    let n = name.len();
-    if word.len() < n {
-        return false;
-    }
-    wire::text::same(&word[..n], name)
+    word.starts_with(name)
 }
 
 // The scheme that a word names.
-fn scheme_of(word: &[u8]) -> SchemeWord
+#[tactic(auto, unfolding(crate::specs::Words::scheme_of))]
+fn scheme_of(word: &[u8]) -> Result<Scheme, BadScheme>
     ensures { result ≡ scheme_of word.now }
 {
-    if wire::text::same(word, b"halfword") {
-        return SchemeWord::Value(Scheme::Halfword);
+    if word == b"halfword".as_slice() {
+        return Ok(Scheme::Halfword);
     }
-    if wire::text::same(word, b"float") {
-        return SchemeWord::Value(Scheme::Float);
+    if word == b"float".as_slice() {
+        return Ok(Scheme::Float);
     }
-    if wire::text::same(word, b"class") {
-        return SchemeWord::Value(Scheme::Class);
+    if word == b"class".as_slice() {
+        return Ok(Scheme::Class);
     }
     if starts_with(word, b"precipitation:") {
         return precipitation(&word[14..]);
@@ -190,28 +148,28 @@ fn scheme_of(word: &[u8]) -> SchemeWord
     if starts_with(word, b"legacy:") {
         return legacy(&word[7..]);
     }
-    SchemeWord::Unknown
+    Err(BadScheme::Unknown)
 }
 
 // How long a SCHEME or CLOCK may be; a longer word is none.
 const MAX_WORD: usize = 64;
 
-pub fn scheme_argument(words: &[String], i: usize) -> SchemeWord {
+pub fn scheme_argument(words: &[String], i: usize) -> Result<Scheme, BadScheme> {
     match words.get(i) {
         Some(word) => {
             if MAX_WORD < word.len() {
-                return SchemeWord::Unknown;
+                return Err(BadScheme::Unknown);
             }
             scheme_of(word.as_bytes())
         }
-        None => SchemeWord::Unknown,
+        None => Err(BadScheme::Unknown),
     }
 }
 
 fn is_gaps(word: &[u8]) -> bool
     ensures { result ≡ same word.now gaps }
 {
-    wire::text::same(word, b"gaps")
+    word == b"gaps".as_slice()
 }
 
 // Whether argument i is the word gaps.
@@ -222,39 +180,31 @@ pub fn gaps_argument(words: &[String], i: usize) -> bool {
     }
 }
 
-pub fn system_clock(rt: &impl Clock) -> ClockWord {
-    let now = match SystemTime::now(rt) {
-        Ok(now) => now,
-        Err(_) => return ClockWord::Missing,
-    };
-    match now.duration_since(UNIX_EPOCH) {
-        Ok(since) => ClockWord::Value(since.as_secs()),
-        Err(_) => ClockWord::Missing,
-    }
+pub fn system_clock(rt: &impl Clock) -> Option<u64> {
+    let now = SystemTime::now(rt).ok()?;
+    let since = now.duration_since(UNIX_EPOCH).ok()?;
+    Some(since.as_secs())
 }
 
 // The clock that a word gives.
-fn clock_of(word: &[u8]) -> ClockWord
+fn clock_of(word: &[u8]) -> Result<u64, NoClock>
     ensures { result ≡ clock_of word.now }
 {
-    if word.len() == 0 {
-        return ClockWord::Bad;
+    if word.is_empty() {
+        return Err(NoClock::Bad);
     }
-    match number_from(0, word) {
-        Number::Value(t) => ClockWord::Value(t),
-        Number::Bad => ClockWord::Bad,
-    }
+    number_from(0, word).ok_or(NoClock::Bad)
 }
 
 // Argument i where there is one, else the system's clock.
-pub fn clock_argument(rt: &impl Clock, words: &[String], i: usize) -> ClockWord {
+pub fn clock_argument(rt: &impl Clock, words: &[String], i: usize) -> Result<u64, NoClock> {
     match words.get(i) {
         Some(word) => {
             if MAX_WORD < word.len() {
-                return ClockWord::Bad;
+                return Err(NoClock::Bad);
             }
             clock_of(word.as_bytes())
         }
-        None => system_clock(rt),
+        None => system_clock(rt).ok_or(NoClock::Missing),
     }
 }

@@ -12,28 +12,6 @@ use borrow.Rule.Slice.PartMut.{put_mid, mid_of}
 use Rattle.wire.proofs.Parts.{part_take, part_drop, part_long}
 use Rattle.sweep.specs.GapSweep.{blanked, blanked_row}
 
--- ---- one row
-
-pub record Blank (n : ℕ) (v : Float) (row : List Float) (i : ℕ) : Type 0 where
-  pub long : length row ≡ n
-  pub known : take i row ≡ take i (replicate n v)
-
-pub blank_first : (v : Float) (row : List Float) → Blank (length row) v row 0
-blank_first v row = record { long = refl; known = refl }
-
-module _ {n : ℕ} {v : Float} {row : List Float} {i : ℕ} (inv : Blank n v row i) where
-  pub blank_turn : i < length row → Blank n v (set row i v) (i + 1)
-  blank_turn h =
-      let k : i < length (replicate n v) = omega (arith, length-replicate n v, inv.long) in
-      let l : i < n = omega (arith, inv.long) in
-      record {
-        long = length-set row i v ∙ inv.long;
-        known = rw (add-one, take-suc-set row i v h, take-suc (replicate n v) i v k, inv.known, get_or-replicate n i v v l);
-      }
-
-  pub blank_end : length row ≤ i → row ≡ replicate n v
-  blank_end h = sym (take_all i row h) ∙ inv.known ∙ take_all i (replicate n v) (omega (arith, length-replicate n v, inv.long))
-
 -- ---- all rows
 
 module _ (bins : ℕ) (marks : List ℕ) where

@@ -11,13 +11,14 @@ use lib.Dec.{eqb}
 use lib.ListN.{length}
 use lib.Ieee.{Float}
 use borrow.Author.Tests.{le-ltb}
+use Rattle.std.specs.Prelude.{Option}
 use Rattle.wire.specs.Bytes.{u16_at}
 use Rattle.wire.specs.Refusal.{Refusal, kind}
-use Rattle.wire.specs.Result.{Result, accepted, refused, refuse, then, lent}
+use Rattle.wire.specs.Result.{Result, accepted, answer, refused, refuse, then, lent}
 use Rattle.wire.proofs.Results.{one_value, through, passed, then_by}
 use Rattle.scale.specs.Physical.{declared_scale}
 use Rattle.scale.specs.declared.physical.Scheme.{Scheme}
-use Rattle.scale.specs.declared.physical.Declared.{Declared}
+use Rattle.scale.specs.declared.scaling.DeclaredLinearScale.{DeclaredLinearScale}
 use Rattle.symbology.specs.declared.figures.Packet.{Packet}
 use Rattle.symbology.specs.Answers.{Picture}
 use Rattle.symbology.specs.Clear.{ClearScan, empty_picture, clear_answer, unmarked, Agrees}
@@ -25,15 +26,14 @@ use Rattle.symbology.specs.Walk.{first_of}
 use Rattle.symbology.specs.Words.{IsData, DamageInWords}
 use Rattle.symbology.proofs.Clear.{clear_is, clear_with_gaps, clear_too, answers_alike, clear_damage}
 use Rattle.sweep.specs.declared.plan.Head.{Head}
-use Rattle.sweep.specs.declared.sweep.SweepAnswer.{SweepAnswer}
-use Rattle.sweep.specs.Sweep.{head_of, allowed, room_for, Accepted, finish, sweep_of, sweep_in, answer_of, Buffers, buffers, Ran}
+use Rattle.sweep.specs.Sweep.{head_of, allowed, room_for, Accepted, finish, sweep_of, sweep_in, Buffers, buffers, Ran, SweepAnswer}
 use Rattle.sweep.specs.GapSweep.{GapSweep, blanked, gap_finish, gap_sweep_of, gap_sweep_in, GapBuffers, gap_buffers, GapRan}
 use Rattle.sweep.specs.Clear.{clear_sweep, unmarked_sweep, NoRows}
 use Rattle.sweep.proofs.CodeRuns as Ordinary
 use Rattle.sweep.proofs.GapCalls as Gaps
 
 -- what is accepted of a head and a scale
-abbrev empty : Head → Picture → Declared → Accepted
+abbrev empty : Head → Picture → Option DeclaredLinearScale → Accepted
 empty h p declared =
     record { sweep = record { token = h.token; fields = h.fields; time = h.time; declared = declared; figures = p.figures }; azimuths = []; codes = []; physical = [] }
 
@@ -86,7 +86,7 @@ module _ (scheme : Scheme) (file : List ℕ) (clock : ℕ) (packet : Packet) (b 
     unfolding gap_finish blanked
     gap_finishes h bins range = rw (finishes na nc np h bins range, le-ltb nm 0 (omega arith)) (by (not (allowed scheme packet)) (declared_scale h.scaling))
       where
-        by : (t : Bool) (d : Result Declared)
+        by : (t : Bool) (d : Result (Option DeclaredLinearScale))
             → then (refuse t (kind 10 []) (then d λ declared. accepted (empty h (empty_picture packet bins range) declared))) (λ a. accepted (record { sweep = a.sweep; azimuths = a.azimuths; codes = a.codes; physical = a.physical; marks = [] }))
             ≡ then (refuse t (kind 10 []) (then d λ declared. accepted (empty h (empty_picture packet bins range) declared))) (λ a. accepted (unmarked_sweep a))
         by true d = refl
@@ -144,17 +144,17 @@ module _ (scheme : Scheme) (file : List ℕ) (clock : ℕ) (packet : Packet) (b 
   gap_kept r e part before h =
       lent_nothing r part before (λ g acc. through (clear_sweep scheme file clock packet b) _ g (sym e ∙ acc) λ p is f. ap part (sym (one_value f)) ∙ h p (clear_rows p is))
 
-  pub clear_run : (old new : Buffers) (answer : SweepAnswer) → Ran scheme file clock b old new answer
-      → (answer_of answer ≡ sweep_in (clear_sweep scheme file clock packet b)) × (new ≡ old)
-  clear_run old new answer ran =
+  pub clear_run : (old new : Buffers) (said : SweepAnswer) → Ran scheme file clock b old new said
+      → (answer said ≡ sweep_in (clear_sweep scheme file clock packet b)) × (new ≡ old)
+  clear_run old new said ran =
       let e = clear_sweep_lem (length old.azimuths) (length old.codes) (length old.physical) in (
         ran.answered ∙ ap sweep_in e,
         same_buffers (ran.azimuths ∙ kept _ e _ _ (λ p n. n.azimuths)) (ran.codes ∙ kept _ e _ _ (λ p n. n.codes)) (ran.physical ∙ kept _ e _ _ (λ p n. n.physical)),
       )
 
-  pub clear_gap_run : (old new : GapBuffers) (answer : SweepAnswer) → GapRan scheme file clock b old new answer
-      → (answer_of answer ≡ sweep_in (clear_sweep scheme file clock packet b)) × (new ≡ old)
-  clear_gap_run old new answer ran =
+  pub clear_gap_run : (old new : GapBuffers) (said : SweepAnswer) → GapRan scheme file clock b old new said
+      → (answer said ≡ sweep_in (clear_sweep scheme file clock packet b)) × (new ≡ old)
+  clear_gap_run old new said ran =
       let e = clear_gap_sweep (length old.azimuths) (length old.codes) (length old.physical) (length old.marks) in (
         ran.answered ∙ ap gap_sweep_in e ∙ told (clear_sweep scheme file clock packet b),
         same_gap_buffers (ran.azimuths ∙ gap_kept _ e _ _ (λ p n. n.azimuths)) (ran.codes ∙ gap_kept _ e _ _ (λ p n. n.codes))
@@ -194,7 +194,7 @@ module _ (packet : Packet) (b b' : List ℕ) (c : ClearScan packet b) (a : Agree
 -- are equal, and neither writes to a buffer.
 pub clear_calls : (packet : Packet) (c d : Ordinary.Call) → Ordinary.Allowed c → Ordinary.Allowed d → Ordinary.file d ≡ Ordinary.file c → Ordinary.clock d ≡ Ordinary.clock c
     → Ordinary.scheme d ≡ Ordinary.scheme c → ClearScan packet (Ordinary.body c) → Agrees packet (Ordinary.body c) (Ordinary.body d)
-    → (answer_of d.answer ≡ answer_of c.answer) × (Ordinary.new c ≡ Ordinary.old c) × (Ordinary.new d ≡ Ordinary.old d)
+    → (answer d.answer ≡ answer c.answer) × (Ordinary.new c ≡ Ordinary.old c) × (Ordinary.new d ≡ Ordinary.old d)
 clear_calls packet c d one other files clocks schemes clear agrees =
     let too = clear_too packet (Ordinary.body c) (Ordinary.body d) clear agrees in
     let first = clear_run (Ordinary.scheme c) (Ordinary.file c) (Ordinary.clock c) packet (Ordinary.body c) clear (Ordinary.old c) (Ordinary.new c) c.answer (Ordinary.call_runs c one) in
@@ -209,7 +209,7 @@ clear_calls packet c d one other files clocks schemes clear agrees =
 -- The same with gaps: nothing is written to the mark buffer either.
 pub clear_gap_calls : (packet : Packet) (c d : Gaps.Call) → Gaps.Allowed c → Gaps.Allowed d → (Gaps.input d).file ≡ (Gaps.input c).file → (Gaps.input d).clock ≡ (Gaps.input c).clock
     → (Gaps.input d).scheme ≡ (Gaps.input c).scheme → ClearScan packet (Gaps.input c).body → Agrees packet (Gaps.input c).body (Gaps.input d).body
-    → (answer_of d.answer ≡ answer_of c.answer) × (Gaps.new c ≡ Gaps.old c) × (Gaps.new d ≡ Gaps.old d)
+    → (answer d.answer ≡ answer c.answer) × (Gaps.new c ≡ Gaps.old c) × (Gaps.new d ≡ Gaps.old d)
 clear_gap_calls packet c d one other files clocks schemes clear agrees =
     let i = Gaps.input c in
     let j = Gaps.input d in

@@ -1,5 +1,6 @@
 -- Demand 3 for two runs of the code: whatever arguments, outcomes and final buffers the contract of `read_sweep` allows. Assumes nothing.
 use Prim.Native.Nat.{ℕ}
+use Rattle.std.specs.Prelude as Std
 use native.Mathlib.Omega.{arith}
 use mathlib.Core.List.{List}
 use mathlib.Core.Path.{◌≡◌, subst}
@@ -13,8 +14,7 @@ use borrow.Rule.Slice.Know.{Fit}
 use Rattle.scale.specs.declared.physical.Scheme.{Scheme}
 use Rattle.symbology.specs.Words.{Bytes, DamageInWords}
 use Rattle.sweep.specs.declared.sweep.Sweep.{Sweep}
-use Rattle.sweep.specs.declared.sweep.SweepAnswer.{SweepAnswer}
-use Rattle.sweep.specs.Sweep.{Buffers, buffers, Ran}
+use Rattle.sweep.specs.Sweep.{Buffers, buffers, Ran, SweepAnswer}
 use Rattle.sweep.specs.Demand3.{SameLengths, TwoRuns}
 use Rattle.sweep.proofs.TwoRuns.{two_runs}
 use Rattle.sweep.specs.contracts.sweep.read_sweep.{signature}
@@ -70,7 +70,7 @@ alike b o n a es ef ek r = rw (← es, ← ef, ← ek) r
 
 -- Two calls with the same file bytes, clock, scheme and buffer lengths. The first is accepted; the second body is damaged as demand 3 says.
 pub two_calls : (c d : Call) → Allowed c → Allowed d → file d ≡ file c → clock d ≡ clock c → scheme d ≡ scheme c → SameLengths (old c) (old d)
-    → (s : Sweep) → c.answer ≡ SweepAnswer.Accepted s → DamageInWords (body c) s.figures (body d)
+    → (s : Sweep) → c.answer ≡ Std.Ok s → DamageInWords (body c) s.figures (body d)
     → TwoRuns (scheme c) (file c) (body c) (body d) s (new c) (new d) d.answer
 two_calls c d one other files clocks schemes lengths s is damaged =
     two_runs (scheme c) (file c) (clock c) (body c) (body d) s (old c) (new c) (old d) (new d) d.answer

@@ -1,6 +1,7 @@
 -- In every description record that an entry of this crate returns each float is the stated operation on its whole number (M-110): in the
 -- readings' answers, and in the answer of any call that the contracts allow. Assumes nothing.
 use Prim.Native.Nat.{ℕ, ◌+◌}
+use Rattle.std.specs.Prelude as Std
 use mathlib.Core.List.{List}
 use mathlib.Core.Bool.{not}
 use mathlib.Core.Path.{◌≡◌, sym, ap, ◌∙◌, subst}
@@ -9,7 +10,7 @@ use contract.Lifetimes.{Lfts}
 use borrow.Fn.World.{ArgsD, ResD}
 use borrow.Fn.Kinds.{ended_of}
 use denote.Triple.Clauses.{AtExit}
-use Rattle.wire.specs.Result.{Result, accepted, then}
+use Rattle.wire.specs.Result.{Result, accepted, answer, then}
 use Rattle.wire.proofs.Results.{one_value, through, passed}
 use Rattle.head.specs.Header.{token, message_header, scan_time}
 use Rattle.head.specs.Pdb.{pdb_fields, Coherent}
@@ -19,10 +20,8 @@ use Rattle.scale.specs.declared.physical.Scheme.{Scheme}
 use Rattle.symbology.specs.Answers.{Picture, picture_of, GapPicture, gap_picture_of}
 use Rattle.symbology.specs.Merge.{merged_of}
 use Rattle.sweep.specs.declared.plan.Head.{Head}
-use Rattle.sweep.specs.declared.plan.HeadRead.TheVariants as HeadRead
 use Rattle.sweep.specs.declared.sweep.Sweep.{Sweep}
-use Rattle.sweep.specs.declared.sweep.SweepAnswer.{SweepAnswer}
-use Rattle.sweep.specs.Sweep.{head_of, head_read_of, allowed, room_for, Accepted, finish, sweep_of, answer_of}
+use Rattle.sweep.specs.Sweep.{head_of, allowed, room_for, Accepted, finish, sweep_of, SweepAnswer}
 use Rattle.sweep.specs.GapSweep.{GapSweep, gap_finish, gap_sweep_of}
 use Rattle.sweep.specs.MergeSweep.{readied, merge_sweep_of}
 use Rattle.sweep.proofs.Reading.{given_in}
@@ -97,25 +96,25 @@ merge_coherent scheme file clock first second na nc np nm g acc =
 -- ---- any call
 
 -- an answer that hands on the sweep of a reading
-handed_on : {A : Type 0} (part : A → Sweep) (r : Result A) → ((a : A) → r ≡ accepted a → Coherent (part a).fields) → (answer : SweepAnswer)
-    → answer_of answer ≡ then r (λ a. accepted (part a)) → (s : Sweep) → answer ≡ SweepAnswer.Accepted s → Coherent s.fields
-handed_on part r good answer e s is =
-    let g = given_in part r (sym (ap answer_of is) ∙ e) in
+handed_on : {A : Type 0} (part : A → Sweep) (r : Result A) → ((a : A) → r ≡ accepted a → Coherent (part a).fields) → (said : SweepAnswer)
+    → answer said ≡ then r (λ a. accepted (part a)) → (s : Sweep) → said ≡ Std.Ok s → Coherent s.fields
+handed_on part r good said e s is =
+    let g = given_in part r (sym (ap answer is) ∙ e) in
     subst (λ (x : Sweep). Coherent x.fields) g.2 (good g.0 g.1)
 
-pub call_head : (l : Lfts 1) (given : ArgsD Head-read.signature l) (answer : ResD Head-read.signature l) (last : AtExit (ended_of 1 head-kinds.ps head-kinds.r) l)
-    → head-reads.Post l given answer last → (h : Head) → answer ≡ HeadRead.Value h → Coherent h.fields
-call_head l given answer last allowed h is = head_coherent given.0 given.1.0.now given.1.1.0 h (sym allowed ∙ ap head_read_of is)
+pub call_head : (l : Lfts 1) (given : ArgsD Head-read.signature l) (said : ResD Head-read.signature l) (last : AtExit (ended_of 1 head-kinds.ps head-kinds.r) l)
+    → head-reads.Post l given said last → (h : Head) → said ≡ Std.Ok h → Coherent h.fields
+call_head l given said last allowed h is = head_coherent given.0 given.1.0.now given.1.1.0 h (sym allowed ∙ ap answer is)
 
-pub call_check : (l : Lfts 2) (given : ArgsD Check.signature l) (answer : ResD Check.signature l) (last : AtExit (ended_of 2 check-kinds.ps check-kinds.r) l)
-    → check-reads.Post l given answer last → (s : Sweep) → answer ≡ SweepAnswer.Accepted s → Coherent s.fields
-call_check l given answer last allowed = handed_on (λ p. p.sweep) _ (sweep_coherent _ _ _ _ _ _ _) answer allowed
+pub call_check : (l : Lfts 2) (given : ArgsD Check.signature l) (said : ResD Check.signature l) (last : AtExit (ended_of 2 check-kinds.ps check-kinds.r) l)
+    → check-reads.Post l given said last → (s : Sweep) → said ≡ Std.Ok s → Coherent s.fields
+call_check l given said last allowed = handed_on (λ p. p.sweep) _ (sweep_coherent _ _ _ _ _ _ _) said allowed
 
-pub call_sweep : (c : Ordinary.Call) → Ordinary.Allowed c → (s : Sweep) → c.answer ≡ SweepAnswer.Accepted s → Coherent s.fields
+pub call_sweep : (c : Ordinary.Call) → Ordinary.Allowed c → (s : Sweep) → c.answer ≡ Std.Ok s → Coherent s.fields
 call_sweep c allowed = handed_on (λ p. p.sweep) _ (sweep_coherent _ _ _ _ _ _ _) c.answer allowed.answered
 
-pub call_gaps : (c : Gaps.Call) → Gaps.Allowed c → (s : Sweep) → c.answer ≡ SweepAnswer.Accepted s → Coherent s.fields
+pub call_gaps : (c : Gaps.Call) → Gaps.Allowed c → (s : Sweep) → c.answer ≡ Std.Ok s → Coherent s.fields
 call_gaps c allowed = handed_on (λ g. g.sweep) _ (gaps_coherent _ _ _ _ _ _ _ _) c.answer allowed.answered
 
-pub call_merge : (c : Merges.Call) → Merges.Allowed c → (s : Sweep) → c.answer ≡ SweepAnswer.Accepted s → Coherent s.fields
+pub call_merge : (c : Merges.Call) → Merges.Allowed c → (s : Sweep) → c.answer ≡ Std.Ok s → Coherent s.fields
 call_merge c allowed = handed_on (λ g. g.sweep) _ (merge_coherent _ _ _ _ _ _ _ _ _) c.answer allowed.answered

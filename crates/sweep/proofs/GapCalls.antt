@@ -1,5 +1,6 @@
 -- What M-101 asks, for two runs of the code: whatever the contracts of `read_sweep` and `read_sweep_with_gaps` allow. Assumes nothing.
 use Prim.Native.Nat.{ℕ, ◌≤◌}
+use Rattle.std.specs.Prelude as Std
 use native.Mathlib.Omega.{arith}
 use mathlib.Core.List.{List}
 use mathlib.Core.Path.{◌≡◌, subst}
@@ -13,9 +14,8 @@ use borrow.Table.Referent.{f_int}
 use borrow.Rule.Slice.Know.{Fit}
 use Rattle.scale.specs.declared.physical.Scheme.{Scheme}
 use Rattle.sweep.specs.declared.sweep.Sweep.{Sweep}
-use Rattle.sweep.specs.declared.sweep.SweepAnswer.{SweepAnswer}
 use Rattle.symbology.specs.Words.{DamageInWords}
-use Rattle.sweep.specs.Sweep.{Ran}
+use Rattle.sweep.specs.Sweep.{Ran, SweepAnswer}
 use Rattle.sweep.specs.GapSweep.{GapBuffers, gap_buffers, GapRan}
 use Rattle.sweep.specs.WithGaps.{SameRoom, GapRuns, OrdinaryRuns}
 use Rattle.sweep.proofs.CodeRuns as Ordinary
@@ -68,7 +68,7 @@ alike b o n a es ef ek r = rw (← es, ← ef, ← ek) r
 -- An ordinary call that is accepted, and a call with gaps of the same file bytes, clock, scheme and picture buffer lengths, whose body is
 -- damaged as demand 3 says and whose mark buffer is long enough.
 pub gap_calls : (c : Ordinary.Call) (d : Call) → Ordinary.Allowed c → Allowed d → (input d).file ≡ Ordinary.file c → (input d).clock ≡ Ordinary.clock c → (input d).scheme ≡ Ordinary.scheme c
-    → SameRoom (Ordinary.old c) (old d) → (s : Sweep) → c.answer ≡ SweepAnswer.Accepted s → DamageInWords (Ordinary.body c) s.figures (input d).body
+    → SameRoom (Ordinary.old c) (old d) → (s : Sweep) → c.answer ≡ Std.Ok s → DamageInWords (Ordinary.body c) s.figures (input d).body
     → s.figures.n_radials ≤ length (old d).marks
     → GapRuns (Ordinary.scheme c) (Ordinary.file c) (Ordinary.body c) (input d).body s (Ordinary.new c) (new d) d.answer
 gap_calls c d one other files clocks schemes lengths s is damaged room =
@@ -80,7 +80,7 @@ gap_calls c d one other files clocks schemes lengths s is damaged room =
 -- enough for the picture, if there is one.
 pub ordinary_calls : (c : Ordinary.Call) (d : Call) → Ordinary.Allowed c → Allowed d → (input d).file ≡ Ordinary.file c → (input d).clock ≡ Ordinary.clock c → (input d).scheme ≡ Ordinary.scheme c
     → (input d).body ≡ Ordinary.body c → SameRoom (Ordinary.old c) (old d)
-    → ((s : Sweep) → c.answer ≡ SweepAnswer.Accepted s → s.figures.n_radials ≤ length (old d).marks)
+    → ((s : Sweep) → c.answer ≡ Std.Ok s → s.figures.n_radials ≤ length (old d).marks)
     → OrdinaryRuns c.answer d.answer (Ordinary.new c) (new d)
 ordinary_calls c d one other files clocks schemes bodies lengths room =
     ordinary_runs (Ordinary.scheme c) (Ordinary.file c) (Ordinary.clock c) (Ordinary.body c) (Ordinary.old c) (Ordinary.new c) (old d) (new d) c.answer d.answer

@@ -20,5 +20,5 @@ use Rattle.sweep.specs.GapSweep.{gap_sweep_of, gap_finish, blanked}
 use Rattle.sweep.specs.GapOrder.{GapOrder}
 
 pub gap_order : GapOrder
-unfolding gap_sweep_of gap_finish blanked gap_picture_of shown gaps row_af1f reach cells sweep_of head_of finish allowed room_for token cut first_token same blank alphanumeric member all leading trim_front trim_end message_header first_of header_at known codes scan_time pdb_fields hw_i32 hw_i16 hw_u16 field_at i32_at i16_at u32_at u16_at signed value_scaling_linear_hw scale_fields declared_scale physical_of value_of picture_of joined run more after_row ◌>>=◌ ◌>>◌ remaining u16 u32 unread radial_data refuse_if symbology packet_of radial_packet packet_header first_bin over_body radial_walk radial frame covered count_wrong row_of row16 centre centre28 generic_packet body_short payload product_block component component_head xdr_radials xdr_radial xdr_walk xdr_frame only int float string string_body uint word short pass array_count pointer counted list_head elements further parameter row28 words push levels f32 f64 add div mul le rem of_int of_bits
+unfolding gap_sweep_of gap_finish blanked gap_picture_of shown gaps row_af1f reach cells sweep_of head_of finish allowed room_for token cut first_token leading trim_front trim_end message_header first_of header_at known codes scan_time pdb_fields hw_i32 hw_i16 hw_u16 field_at i32_at i16_at u32_at u16_at signed value_scaling_linear_hw scale_fields declared_scale physical_of value_of picture_of joined run more after_row ◌>>=◌ ◌>>◌ remaining u16 u32 unread radial_data refuse_if symbology packet_of radial_packet packet_header first_bin over_body radial_walk radial frame covered count_wrong row_of row16 centre centre28 generic_packet body_short payload product_block component component_head xdr_radials xdr_radial xdr_walk xdr_frame only int float string string_body uint word short pass array_count pointer counted list_head elements further parameter row28 words push levels f32 f64 add div mul le rem of_int of_bits
 gap_order = record { physical_first = refl; marks_last = refl; ordinary = refl; gap = refl; clear = refl }

@@ -1,5 +1,7 @@
 -- A sweep reading with gaps by way of symbology's entry, a law for each answer of the code. Assumes nothing.
 use Prim.Native.Nat.{ℕ, ◌*◌, ◌≤◌}
+use Rattle.std.specs.Prelude.{Option}
+use Rattle.std.specs.Prelude as Std
 use mathlib.Core.List.{List, [], ◌∷◌, map, ◌++◌}
 use mathlib.Core.Bool.{Bool, true, false, not}
 use mathlib.Core.Path.{◌≡◌, refl, sym, ap, subst, ◌∙◌}
@@ -12,20 +14,18 @@ use borrow.Author.Tests.{ltb-false}
 use Rattle.wire.specs.declared.error.Level3DecodeError.{Level3DecodeError}
 use Rattle.wire.specs.declared.error.Buffer.TheVariants as Buffer
 use Rattle.wire.specs.Refusal.{Refusal, kind, buffer, refusal_of}
-use Rattle.wire.specs.Result.{Result, accepted, refused, refuse, then, lent}
+use Rattle.wire.specs.Result.{Result, accepted, answer, refused, refuse, then, lent}
 use Rattle.scale.specs.Physical.{scale_fields, declared_scale, physical_of, fill_of}
-use Rattle.scale.specs.declared.physical.Declared.{Declared}
+use Rattle.scale.specs.declared.scaling.DeclaredLinearScale.{DeclaredLinearScale}
 use Rattle.scale.specs.declared.physical.Scaling.{Scaling}
 use Rattle.scale.specs.declared.physical.Scheme.{Scheme}
-use Rattle.symbology.specs.Answers.{GapPicture, gap_picture_of, too_few, room_in, admit, gaps_on_terms, gap_decode_for, gap_figures_in, figures_of, DecodesWithGaps}
+use Rattle.symbology.specs.Answers.{GapPicture, gap_picture_of, room_in, admit, gaps_on_terms, gap_decode_for, gap_figures_in, DecodesWithGaps}
 use Rattle.symbology.specs.declared.figures.Figures.{Figures}
-use Rattle.symbology.specs.declared.figures.FiguresRead.{FiguresRead}
 use Rattle.symbology.specs.declared.figures.Terms.{Terms}
 use Rattle.sweep.specs.declared.plan.Head.{Head}
 use Rattle.sweep.specs.declared.sweep.Sweep.{Sweep}
-use Rattle.sweep.specs.declared.sweep.SweepAnswer.{SweepAnswer}
 use Rattle.wire.proofs.Results.{clash, one_value, one_refusal, through, passed}
-use Rattle.sweep.specs.Sweep.{head_of, allowed, room_for, finish, answer_of, sweep_with, terms_for}
+use Rattle.sweep.specs.Sweep.{head_of, allowed, room_for, finish, sweep_with, terms_for, SweepAnswer}
 use Rattle.sweep.specs.GapSweep.{GapSweep, blanked, blanked_lent, gap_finish, gap_sweep_of, gap_sweep_in, gap_buffers, MarkedRan}
 use Rattle.symbology.proofs.GapRows.{gap_sizes}
 use Rattle.sweep.proofs.Parts.{block_start}
@@ -36,7 +36,7 @@ abbrev short : Refusal
 short = kind 36 (buffer Buffer.Marks ∷ [])
 
 -- what acceptance gives
-abbrev shown : Scheme → List ℕ → Head → GapPicture → Declared → GapSweep
+abbrev shown : Scheme → List ℕ → Head → GapPicture → Option DeclaredLinearScale → GapSweep
 shown scheme file h p declared =
     record {
       sweep = record { token = h.token; fields = h.fields; time = h.time; declared = declared; figures = p.picture.figures };
@@ -47,7 +47,7 @@ shown scheme file h p declared =
     }
 
 module _ (scheme : Scheme) (file : List ℕ) (h : Head) (na nc np nm : ℕ) where
-  by_marks : (b : Bool) (d : Result Declared) (room : Result (Unit {0})) (m : Bool) (p : GapPicture)
+  by_marks : (b : Bool) (d : Result (Option DeclaredLinearScale)) (room : Result (Unit {0})) (m : Bool) (p : GapPicture)
       → then (refuse b (kind 10 []) (then d λ declared. then room λ _. accepted (swept scheme file h p.picture declared))) (λ a.
       refuse m short (accepted (record {
         sweep = a.sweep;
@@ -64,11 +64,11 @@ module _ (scheme : Scheme) (file : List ℕ) (h : Head) (na nc np nm : ℕ) wher
   by_marks false (accepted declared) (accepted u) false p = refl
   by_marks false (accepted declared) (refused x) m p = refl
 
-  finish_is : (d : Result Declared) → d ≡ declared_scale h.scaling → scale_fields scheme file h.block ≡ accepted h.scaling → (p : GapPicture)
+  finish_is : (d : Result (Option DeclaredLinearScale)) → d ≡ declared_scale h.scaling → scale_fields scheme file h.block ≡ accepted h.scaling → (p : GapPicture)
       → gap_finish scheme file na nc np nm h p
       ≡ then (then (admit (terms_for h.scaling np) na nc p.picture.figures) λ _. refuse (ltb nm p.picture.figures.n_radials) short (accepted p)) λ q.
       then d λ declared. accepted (shown scheme file h q declared)
-  unfolding gap_finish finish admit room_in room_for too_few terms_for
+  unfolding gap_finish finish admit room_in room_for terms_for
   finish_is d e es p =
       rw (asked_is scheme file h.block h.scaling es p.picture.figures.packet, step_declared h.scaling, ← e)
       (by_marks (not (allowed scheme p.picture.figures.packet)) d (room_for na nc np p.picture.figures) (ltb nm p.picture.figures.n_radials) p)
@@ -80,7 +80,7 @@ abbrev pub Sized : GapPicture → Type 0
 Sized p = (length p.marks ≡ p.picture.figures.n_radials) × (length p.picture.codes ≡ p.picture.figures.n_radials * p.picture.figures.n_bins)
 
 -- what is known once a picture was made on the terms of a scaling
-pub record Drawn (d : Result Declared) (decoded : Result GapPicture) (nc np nm : ℕ) (f : Figures) : Type 0 where
+pub record Drawn (d : Result (Option DeclaredLinearScale)) (decoded : Result GapPicture) (nc np nm : ℕ) (f : Figures) : Type 0 where
   pub picture : GapPicture
   pub is : decoded ≡ accepted picture
   pub figures : picture.picture.figures ≡ f
@@ -88,7 +88,7 @@ pub record Drawn (d : Result Declared) (decoded : Result GapPicture) (nc np nm :
   pub admitted : Admitted d nc np f
   pub marks_room : f.n_radials ≤ nm
 
-drawn : (s : Scaling) (d : Result Declared) → d ≡ declared_scale s → (made : Result GapPicture) → ((p : GapPicture) → made ≡ accepted p → Sized p) → (na nc np nm : ℕ) {f : Figures}
+drawn : (s : Scaling) (d : Result (Option DeclaredLinearScale)) → d ≡ declared_scale s → (made : Result GapPicture) → ((p : GapPicture) → made ≡ accepted p → Sized p) → (na nc np nm : ℕ) {f : Figures}
     → accepted f ≡ gap_figures_in (gaps_on_terms (terms_for s np) made na nc nm) → Drawn d (gaps_on_terms (terms_for s np) made na nc nm) nc np nm f
 unfolding gaps_on_terms
 drawn s d is made sized na nc np nm {f} e =
@@ -112,7 +112,7 @@ drawn s d is made sized na nc np nm {f} e =
 
 -- what the code says and leaves, by a result
 pub told : {d G : Result GapSweep} (az : List Float) (cs : List ℕ) (ph : List Float) (ms : List ℕ) {r : SweepAnswer} {az' : List Float} {cs' : List ℕ} {ph' : List Float} {ms' : List ℕ}
-    → d ≡ G → answer_of r ≡ gap_sweep_in d
+    → d ≡ G → answer r ≡ gap_sweep_in d
     → az' ≡ lent d (λ p. p.azimuths) az → cs' ≡ lent d (λ p. p.codes) cs → ph' ≡ lent d (λ p. p.physical) ph → ms' ≡ lent d (λ p. p.marks) ms
     → MarkedRan G (gap_buffers az cs ph ms) (gap_buffers az' cs' ph' ms') r
 told az cs ph ms e i a c v m =
@@ -126,7 +126,7 @@ told az cs ph ms e i a c v m =
 
 -- The head h was read, the declared scale d and the terms t made of it. `made` is the picture of the bodies, `decode` symbology's reading of
 -- them on the terms, by buffers of so many places, and G the whole with the buffers az, cs, ph and ms.
-pub record Begun (scheme : Scheme) (file : List ℕ) (clock : ℕ) (G : Result GapSweep) (decode : ℕ → ℕ → ℕ → Result GapPicture) (az : List Float) (cs : List ℕ) (ph : List Float) (ms : List ℕ) (h : Head) (d : Result Declared)
+pub record Begun (scheme : Scheme) (file : List ℕ) (clock : ℕ) (G : Result GapSweep) (decode : ℕ → ℕ → ℕ → Result GapPicture) (az : List Float) (cs : List ℕ) (ph : List Float) (ms : List ℕ) (h : Head) (d : Result (Option DeclaredLinearScale))
     : Type 0 where
   pub head_is : accepted h ≡ head_of scheme file clock
   pub declared_is : d ≡ declared_scale h.scaling
@@ -135,7 +135,7 @@ pub record Begun (scheme : Scheme) (file : List ℕ) (clock : ℕ) (G : Result G
   pub decode_is : decode (length az) (length cs) (length ms) ≡ gaps_on_terms (terms_for h.scaling (length ph)) made (length az) (length cs) (length ms)
   pub reading_is : G ≡ then made (gap_finish scheme file (length az) (length cs) (length ph) (length ms) h)
 
-module _ {scheme : Scheme} {file : List ℕ} {clock : ℕ} {G : Result GapSweep} {decode : ℕ → ℕ → ℕ → Result GapPicture} {az : List Float} {cs : List ℕ} {ph : List Float} {ms : List ℕ} {h : Head} {d : Result Declared}
+module _ {scheme : Scheme} {file : List ℕ} {clock : ℕ} {G : Result GapSweep} {decode : ℕ → ℕ → ℕ → Result GapPicture} {az : List Float} {cs : List ℕ} {ph : List Float} {ms : List ℕ} {h : Head} {d : Result (Option DeclaredLinearScale)}
     (w : Begun scheme file clock G decode az cs ph ms h d) where
   by_decode : G ≡ then (decode (length az) (length cs) (length ms)) λ p. then d λ declared. accepted (shown scheme file h p declared)
   unfolding gaps_on_terms
@@ -148,22 +148,22 @@ module _ {scheme : Scheme} {file : List ℕ} {clock : ℕ} {G : Result GapSweep}
       by (accepted p) = finish_is scheme file h (length az) (length cs) (length ph) (length ms) d w.declared_is (block_start scheme file clock h (sym w.head_is)).3 p
       by (refused x) = refl
 
-  pub body_refused : {x : Level3DecodeError} {r : FiguresRead} {az' : List Float} {cs' ms' : List ℕ} → r ≡ FiguresRead.Refused x
-      → DecodesWithGaps decode az az' cs cs' ms ms' r → MarkedRan G (gap_buffers az cs ph ms) (gap_buffers az' cs' ph ms') (SweepAnswer.Refused x)
-  body_refused {x} is k =
-      let z = refused_in (λ (p : GapPicture). p.picture.figures) (decode (length az) (length cs) (length ms)) (ap figures_of (sym is) ∙ k.answered) in
+  pub body_refused : {x : Level3DecodeError} {az' : List Float} {cs' ms' : List ℕ}
+      → DecodesWithGaps decode az az' cs cs' ms ms' (Std.Err x) → MarkedRan G (gap_buffers az cs ph ms) (gap_buffers az' cs' ph ms') (Std.Err x)
+  body_refused {x} k =
+      let z = refused_in (λ (p : GapPicture). p.picture.figures) (decode (length az) (length cs) (length ms)) k.answered in
       let r : refused (refusal_of x) ≡ G = sym (by_decode ∙ rw z) in
       told az cs ph ms r refl (k.azimuths ∙ ap (λ d. lent d (λ p. p.picture.azimuths) az) z) (k.codes ∙ ap (λ d. lent d (λ p. p.picture.codes) cs) z) refl
       (k.marks ∙ ap (λ d. lent d (λ p. p.marks) ms) z)
 
 -- ---- after symbology's entry has accepted, with the figures f
 
-pub record Decoded (scheme : Scheme) (file : List ℕ) (clock : ℕ) (G : Result GapSweep) (decode : ℕ → ℕ → ℕ → Result GapPicture) (az : List Float) (cs : List ℕ) (ph : List Float) (ms : List ℕ) (h : Head) (d : Result Declared) (f : Figures)
+pub record Decoded (scheme : Scheme) (file : List ℕ) (clock : ℕ) (G : Result GapSweep) (decode : ℕ → ℕ → ℕ → Result GapPicture) (az : List Float) (cs : List ℕ) (ph : List Float) (ms : List ℕ) (h : Head) (d : Result (Option DeclaredLinearScale)) (f : Figures)
     : Type 0 where
   pub begun : Begun scheme file clock G decode az cs ph ms h d
   pub figures_are : accepted f ≡ gap_figures_in (decode (length az) (length cs) (length ms))
 
-module _ {scheme : Scheme} {file : List ℕ} {clock : ℕ} {G : Result GapSweep} {decode : ℕ → ℕ → ℕ → Result GapPicture} {az : List Float} {cs : List ℕ} {ph : List Float} {ms : List ℕ} {h : Head} {d : Result Declared} {f : Figures}
+module _ {scheme : Scheme} {file : List ℕ} {clock : ℕ} {G : Result GapSweep} {decode : ℕ → ℕ → ℕ → Result GapPicture} {az : List Float} {cs : List ℕ} {ph : List Float} {ms : List ℕ} {h : Head} {d : Result (Option DeclaredLinearScale)} {f : Figures}
     (w : Decoded scheme file clock G decode az cs ph ms h d f) where
   drawn_here : Drawn d (decode (length az) (length cs) (length ms)) (length cs) (length ph) (length ms) f
   drawn_here =
@@ -210,7 +210,7 @@ module _ {scheme : Scheme} {file : List ℕ} {clock : ℕ} {G : Result GapSweep}
         ap (λ l. fill_of scheme file h.block l (length ph)) same_codes
         ∙ fills scheme file clock h (sym w.begun.head_is) drawn_here.picture.picture.codes (length ph) (rw drawn_here.sizes.1 drawn_here.admitted.physical_room)
 
-    pub read : {r : SweepAnswer} {az' ph' : List Float} → answer_of r ≡ then Fill (λ _. sweep_with h d f)
+    pub read : {r : SweepAnswer} {az' ph' : List Float} → answer r ≡ then Fill (λ _. sweep_with h d f)
         → az' ≡ lent (decode (length az) (length cs) (length ms)) (λ p. p.picture.azimuths) az
         → ph' ≡ blanked_lent Fill f.n_bins (take f.n_radials ms') ph → MarkedRan G (gap_buffers az cs ph ms) (gap_buffers az' cs' ph' ms') r
     unfolding values
@@ -241,20 +241,20 @@ values_room fill ph n bins ms {ph'} v m h = rw (length-take-le n ms m, v) (by fi
     by (accepted values) = omega (arith, h, length-append values (drop (length values) ph), length-drop (length values) ph)
     by (refused x) = h
 
-module _ (fill : Result (List Float)) (answer : Result Sweep) where
+module _ (fill : Result (List Float)) (said : Result Sweep) where
   pub not_filled : {x : Refusal} (bins : ℕ) (marks : List ℕ) (ph : List Float) {ph' : List Float} → ◌≡◌ {A = Result (Unit {0})} (refused x) (then fill λ _. accepted tt) → ph' ≡ lent fill (λ values. values) ph
-      → (refused x ≡ then fill λ _. answer) × (ph' ≡ blanked_lent fill bins marks ph)
+      → (refused x ≡ then fill λ _. said) × (ph' ≡ blanked_lent fill bins marks ph)
   not_filled {x} bins marks ph {ph'} e v = by fill e v
     where
-      by : (z : Result (List Float)) → ◌≡◌ {A = Result (Unit {0})} (refused x) (then z λ _. accepted tt) → ph' ≡ lent z (λ values. values) ph → (refused x ≡ then z λ _. answer) × (ph' ≡ blanked_lent z bins marks ph)
+      by : (z : Result (List Float)) → ◌≡◌ {A = Result (Unit {0})} (refused x) (then z λ _. accepted tt) → ph' ≡ lent z (λ values. values) ph → (refused x ≡ then z λ _. said) × (ph' ≡ blanked_lent z bins marks ph)
       by (accepted values) e v = clash tt x e
       by (refused y) e v = (ap refused (one_refusal e), v)
 
   pub was_filled : (bins : ℕ) (marks : List ℕ) (ph : List Float) {ph' ph'' : List Float} {r : Result Sweep} → ◌≡◌ {A = Result (Unit {0})} (accepted tt) (then fill λ _. accepted tt) → ph' ≡ lent fill (λ values. values) ph
-      → ph'' ≡ blanked bins marks ph' → r ≡ answer → (r ≡ then fill λ _. answer) × (ph'' ≡ blanked_lent fill bins marks ph)
+      → ph'' ≡ blanked bins marks ph' → r ≡ said → (r ≡ then fill λ _. said) × (ph'' ≡ blanked_lent fill bins marks ph)
   was_filled bins marks ph {ph'} {ph''} {r} e v b i = by fill e v
     where
-      by : (z : Result (List Float)) → ◌≡◌ {A = Result (Unit {0})} (accepted tt) (then z λ _. accepted tt) → ph' ≡ lent z (λ values. values) ph → (r ≡ then z λ _. answer) × (ph'' ≡ blanked_lent z bins marks ph)
+      by : (z : Result (List Float)) → ◌≡◌ {A = Result (Unit {0})} (accepted tt) (then z λ _. accepted tt) → ph' ≡ lent z (λ values. values) ph → (r ≡ then z λ _. said) × (ph'' ≡ blanked_lent z bins marks ph)
       by (accepted values) e v = (i, b ∙ ap (blanked bins marks) v)
       by (refused y) e v = clash tt y (sym e)
 
@@ -265,7 +265,7 @@ module _ (scheme : Scheme) (file : List ℕ) (clock : ℕ) (body : List ℕ) (az
   abbrev G : Result GapSweep
   G = gap_sweep_of scheme file clock body (length az) (length cs) (length ph) (length ms)
 
-  pub head_refused : {x : Level3DecodeError} → refused (refusal_of x) ≡ head_of scheme file clock → MarkedRan G (gap_buffers az cs ph ms) (gap_buffers az cs ph ms) (SweepAnswer.Refused x)
+  pub head_refused : {x : Level3DecodeError} → refused (refusal_of x) ≡ head_of scheme file clock → MarkedRan G (gap_buffers az cs ph ms) (gap_buffers az cs ph ms) (Std.Err x)
   unfolding gap_sweep_of
   head_refused {x} e = let d : refused (refusal_of x) ≡ G = rw (← e) in told az cs ph ms d refl refl refl refl refl
 

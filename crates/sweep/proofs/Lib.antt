@@ -8,7 +8,6 @@ pub mod TwoRuns
 pub mod CodeRuns
 pub mod InWords
 pub mod Table
-pub mod Timed
 pub mod Reading
 pub mod Circle
 pub mod Thresholds

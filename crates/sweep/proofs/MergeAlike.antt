@@ -6,13 +6,14 @@ use mathlib.Core.Bool.{Bool, true, false, not}
 use mathlib.Core.Path.{◌≡◌, refl, sym, ap, ap₂, ◌∙◌}
 use lib.ListN.{length, get_or, take, drop}
 use lib.Ieee.{Float}
+use Rattle.std.specs.Prelude.{Option}
 use Rattle.wire.specs.Refusal.{Refusal, kind}
 use Rattle.wire.specs.Result.{Result, accepted, refused, refuse, then}
 use Rattle.wire.specs.Reading.{Given, run, gaps}
 use Rattle.wire.proofs.Gaps.{all_whole, gaps_accepted, whole_row}
 use Rattle.wire.proofs.Results.{clash, one_value}
 use Rattle.scale.specs.Physical.{declared_scale}
-use Rattle.scale.specs.declared.physical.Declared.{Declared}
+use Rattle.scale.specs.declared.scaling.DeclaredLinearScale.{DeclaredLinearScale}
 use Rattle.scale.specs.declared.physical.Scheme.{Scheme}
 use Rattle.symbology.specs.Answers.{GapPicture, picture_with, gap_picture_of}
 use Rattle.symbology.specs.Merge.{merged_of}
@@ -63,7 +64,7 @@ module _ (scheme : Scheme) (file : List ℕ) (clock : ℕ) (na nc np nm : ℕ) w
         r : g.rows ≡ g'.rows
         r = ap (λ z. z.1) (one_value e)
 
-        by : (t : Bool) (d : Result Declared) → not (allowed scheme g.value.figures.packet) ≡ t → declared_scale h.scaling ≡ d
+        by : (t : Bool) (d : Result (Option DeclaredLinearScale)) → not (allowed scheme g.value.figures.packet) ≡ t → declared_scale h.scaling ≡ d
             → then (ready (accepted g)) (λ a. then (ready (accepted g')) λ b. then (merged_of a b) (gap_finish scheme file na nc np nm h))
             ≡ gap_finish scheme file na nc np nm h (picture_with g.value g.rows)
         by true d t k = rw t (sym (finish_10 h (picture_with g.value g.rows) t))

@@ -1,5 +1,6 @@
 -- Two receptions for two runs of the code: whatever the contracts of `read_sweep` and `merge_receptions` allow. Assumes nothing.
 use Prim.Native.Nat.{ℕ, ◌≤◌}
+use Rattle.std.specs.Prelude as Std
 use native.Mathlib.Omega.{arith}
 use mathlib.Core.List.{List}
 use mathlib.Core.Path.{◌≡◌, subst}
@@ -13,8 +14,7 @@ use borrow.Table.Referent.{f_int}
 use borrow.Rule.Slice.Know.{Fit}
 use Rattle.scale.specs.declared.physical.Scheme.{Scheme}
 use Rattle.sweep.specs.declared.sweep.Sweep.{Sweep}
-use Rattle.sweep.specs.declared.sweep.SweepAnswer.{SweepAnswer}
-use Rattle.sweep.specs.Sweep.{Ran}
+use Rattle.sweep.specs.Sweep.{Ran, SweepAnswer}
 use Rattle.sweep.specs.GapSweep.{GapBuffers, gap_buffers, MarkedRan, GapRan}
 use Rattle.sweep.specs.WithGaps.{SameRoom}
 use Rattle.sweep.specs.MergeSweep.{MergeRan}
@@ -73,7 +73,7 @@ alike b₁ b₂ o n a es ef ek r = rw (← es, ← ef, ← ek) r
 -- An ordinary call that is accepted, and a merging call of the same file bytes, clock, scheme and picture buffer lengths, whose bodies are
 -- damaged in radials of which none is in both and whose mark buffer is long enough.
 pub merge_calls : (c : Ordinary.Call) (d : Call) → Ordinary.Allowed c → Allowed d → (input d).file ≡ Ordinary.file c → (input d).clock ≡ Ordinary.clock c → (input d).scheme ≡ Ordinary.scheme c
-    → SameRoom (Ordinary.old c) (old d) → (s : Sweep) → c.answer ≡ SweepAnswer.Accepted s → Apart s.figures (Ordinary.body c) (input d).first (input d).second
+    → SameRoom (Ordinary.old c) (old d) → (s : Sweep) → c.answer ≡ Std.Ok s → Apart s.figures (Ordinary.body c) (input d).first (input d).second
     → s.figures.n_radials ≤ length (old d).marks
     → MergeRuns (Ordinary.body c) (input d).first (input d).second s (Ordinary.new c) (old d) (new d) d.answer
 merge_calls c d one other files clocks schemes lengths s is damaged room =

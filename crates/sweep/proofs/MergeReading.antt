@@ -1,5 +1,7 @@
 -- The merged reading of two bodies by way of symbology's entry, a law for each answer of the code. Assumes nothing.
 use Prim.Native.Nat.{ℕ, zero, suc, ◌*◌, ◌<◌, suc-le-suc}
+use Rattle.std.specs.Prelude.{Option}
+use Rattle.std.specs.Prelude as Std
 use native.Mathlib.Omega.{arith}
 use native.Mathlib.Nat.{not-suc-le-zero, le_of_suc-le-suc}
 use mathlib.Core.List.{List, [], ◌∷◌, map}
@@ -15,7 +17,7 @@ use Rattle.wire.proofs.Codes.{both}
 use Rattle.wire.proofs.Results.{one_value, through, passed}
 use borrow.Author.Tests.{not-false}
 use Rattle.scale.specs.Physical.{scale_fields, declared_scale}
-use Rattle.scale.specs.declared.physical.Declared.{Declared}
+use Rattle.scale.specs.declared.scaling.DeclaredLinearScale.{DeclaredLinearScale}
 use Rattle.scale.specs.declared.physical.Scheme.{Scheme}
 use Rattle.symbology.specs.Answers.{asked, step_of, passing, joined, mark_of, shown, GapPicture, gaps_on_terms}
 use Rattle.symbology.specs.Merge.{same_figures, same_floats, agreed, either, merge_rows, merged_of, usable, usable_of, merge_picture_of, merge_for}
@@ -28,8 +30,7 @@ use Rattle.symbology.proofs.Merging.{either_long}
 use Rattle.symbology.proofs.RowPlaces.{joined_long}
 use Rattle.symbology.proofs.SameFigures.{figures_are}
 use Rattle.sweep.specs.declared.plan.Head.{Head}
-use Rattle.sweep.specs.declared.sweep.SweepAnswer.{SweepAnswer}
-use Rattle.sweep.specs.Sweep.{head_of, allowed, packets_for, terms_for}
+use Rattle.sweep.specs.Sweep.{head_of, allowed, packets_for, terms_for, SweepAnswer}
 use Rattle.sweep.specs.GapSweep.{GapSweep, gap_finish, gap_buffers, MarkedRan}
 use Rattle.sweep.specs.MergeSweep.{readied, merge_sweep_of}
 use Rattle.sweep.proofs.Parts.{block_start}
@@ -39,7 +40,7 @@ use Rattle.sweep.proofs.GapParts.{GapSizes, finished_sizes}
 
 -- ---- a body up to 36, on the terms of a scheme
 
-by_step : {A : Type 0} (b : Bool) (d : Result Declared) (a : A)
+by_step : {A : Type 0} (b : Bool) (d : Result (Option DeclaredLinearScale)) (a : A)
     → then (refuse b (kind 10 []) (then d λ _. accepted (tt {0}))) (λ _. accepted a) ≡ refuse b (kind 10 []) (then d λ _. accepted a)
 by_step true d a = refl
 by_step false (accepted declared) a = refl
@@ -123,7 +124,7 @@ module _ (scheme : Scheme) (file : List ℕ) (clock : ℕ) (first second : List 
   abbrev M : Result GapSweep
   M = merge_sweep_of scheme file clock first second (length az) (length cs) (length ph) (length ms)
 
-  pub merge_head_refused : {x : Level3DecodeError} → refused (refusal_of x) ≡ head_of scheme file clock → MarkedRan M (gap_buffers az cs ph ms) (gap_buffers az cs ph ms) (SweepAnswer.Refused x)
+  pub merge_head_refused : {x : Level3DecodeError} → refused (refusal_of x) ≡ head_of scheme file clock → MarkedRan M (gap_buffers az cs ph ms) (gap_buffers az cs ph ms) (Std.Err x)
   unfolding merge_sweep_of
   merge_head_refused {x} e = let d : refused (refusal_of x) ≡ M = rw (← e) in told az cs ph ms d refl refl refl refl refl
 

@@ -16,7 +16,7 @@ use Rattle.symbology.specs.declared.figures.Packet.{Packet}
 use Rattle.symbology.specs.declared.figures.Packet.TheVariants.{Packet16, PacketAf1f, Packet28}
 use Rattle.symbology.specs.declared.figures.Geometry.{Geometry}
 use Rattle.symbology.specs.declared.figures.Geometry.TheVariants.{RangeScale, Gates}
-use Rattle.sweep.proofs.RowMerge.{list_same}
+use Rattle.std.proofs.lemmas.Slice.Eq.{bytes_eq-Decides}
 
 packet_self : (p : Packet) → same_packet p p ≡ true
 packet_self Packet16 = refl
@@ -41,7 +41,7 @@ figures_self f = rw (packet_self f.packet, eq-eqb f.n_radials _ refl, eq-eqb f.n
 no_disagreement : (x : List ℕ) → disagree x x ≡ false
 unfolding disagree
 no_disagreement [] = refl
-no_disagreement (zero ∷ c) = ap not (list_same c)
+no_disagreement (zero ∷ c) = ap not ((bytes_eq-Decides c c).1 refl)
 no_disagreement (suc m ∷ c) = refl
 
 self_agreed : (r : ℕ) (xs : List (List ℕ)) → agreed r xs xs ≡ accepted tt

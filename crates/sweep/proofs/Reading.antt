@@ -1,5 +1,7 @@
 -- The sweep reading by way of symbology's entry, a law for each answer of the code. Assumes nothing.
 use Prim.Native.Nat.{ℕ, ◌*◌, ◌≤◌}
+use Rattle.std.specs.Prelude.{Option, Some}
+use Rattle.std.specs.Prelude as Std
 use mathlib.Core.List.{List, [], ◌∷◌, map, ◌++◌}
 use mathlib.Core.Bool.{Bool, true, false, not}
 use mathlib.Core.Path.{◌≡◌, refl, sym, ap, subst, ◌∙◌}
@@ -11,31 +13,26 @@ use lib.Ieee.{Float, le}
 use borrow.Author.Tests.{le-ltb, ltb-false}
 use Rattle.wire.specs.Float.{f32}
 use Rattle.wire.specs.Refusal.{Refusal, kind, float, refusal_of}
-use Rattle.wire.specs.Result.{Result, accepted, refused, refuse, then, lent}
-use Rattle.scale.specs.Outcome.{declared_scale_of}
+use Rattle.wire.specs.Result.{Result, accepted, answer, refused, refuse, then, lent}
 use Rattle.scale.specs.Pdb.{value_scaling_linear_hw, value_scaling_float, precip_family_scale, threshold_place}
 use Rattle.scale.specs.Physical.{scale_fields, declared_scale, physical_of, fill_of}
 use Rattle.scale.specs.declared.scaling.DeclaredLinearScale.{DeclaredLinearScale}
-use Rattle.scale.specs.declared.physical.Declared.{Declared}
-use Rattle.scale.specs.declared.physical.DeclaredScaleRead.{DeclaredScaleRead}
 use Rattle.scale.specs.declared.physical.Scaling.{Scaling}
 use Rattle.scale.specs.declared.physical.Scheme.{Scheme}
-use Rattle.symbology.specs.Answers.{Picture, picture_of, asked, too_few, step_of, room_in, admit, decode_for, figures_in, figures_of, Decodes}
+use Rattle.symbology.specs.Answers.{Picture, picture_of, asked, step_of, room_in, admit, decode_for, figures_in, Decodes}
 use Rattle.symbology.specs.Symbology.{symbology}
 use Rattle.wire.specs.Reading.{run}
 use Rattle.symbology.specs.declared.figures.Figures.{Figures}
 use Rattle.symbology.specs.declared.figures.Packet.{Packet}
 use Rattle.symbology.specs.declared.figures.Packet.TheVariants.{Packet16, PacketAf1f, Packet28}
 use Rattle.symbology.specs.declared.figures.Packets.TheVariants as Packets
-use Rattle.symbology.specs.declared.figures.FiguresRead.{FiguresRead}
 use Rattle.symbology.specs.declared.figures.Terms.{Terms}
 use Rattle.sweep.specs.declared.plan.Head.{Head}
 use Rattle.sweep.specs.declared.sweep.Sweep.{Sweep}
-use Rattle.sweep.specs.declared.sweep.SweepAnswer.{SweepAnswer}
 use Rattle.wire.proofs.Results.{clash, one_value, one_refusal, through, passed}
 use Rattle.sweep.proofs.Parts.{block_start}
 use Rattle.symbology.proofs.RowPlaces.{codes_long}
-use Rattle.sweep.specs.Sweep.{head_of, allowed, room_for, Accepted, finish, sweep_of, sweep_in, answer_of, sweep_with, buffers, Ran, packets_for, terms_for}
+use Rattle.sweep.specs.Sweep.{head_of, allowed, room_for, Accepted, finish, sweep_of, sweep_in, sweep_with, buffers, Ran, packets_for, terms_for, SweepAnswer}
 
 -- ---- what is asked of a body on the terms of a scheme
 
@@ -86,7 +83,7 @@ step_declared (Scaling.Linear s) = by (le s.value_increment (f32 0 1)) _
   where
     by : (b : Bool) (y : DeclaredLinearScale)
         → refuse b (kind 9 (float s.value_increment ∷ [])) (accepted tt)
-        ≡ then (then (refuse b (kind 9 (float s.value_increment ∷ [])) (accepted y)) (λ x. accepted (Declared.Scale x))) (λ _. accepted (tt {0}))
+        ≡ then (then (refuse b (kind 9 (float s.value_increment ∷ [])) (accepted y)) (λ x. accepted (Some x))) (λ _. accepted (tt {0}))
     by true y = refl
     by false y = refl
 step_declared (Scaling.Precip p) = refl
@@ -94,7 +91,7 @@ step_declared (Scaling.Legacy at post) = refl
 step_declared Scaling.Class = refl
 
 -- what acceptance gives
-abbrev pub swept : Scheme → List ℕ → Head → Picture → Declared → Accepted
+abbrev pub swept : Scheme → List ℕ → Head → Picture → Option DeclaredLinearScale → Accepted
 swept scheme file h p declared =
     record {
       sweep = record { token = h.token; fields = h.fields; time = h.time; declared = declared; figures = p.figures };
@@ -104,7 +101,7 @@ swept scheme file h p declared =
     }
 
 module _ (scheme : Scheme) (file : List ℕ) (h : Head) (na nc np : ℕ) where
-  by_declared : (b : Bool) (d : Result Declared) (room : Result (Unit {0})) (p : Picture)
+  by_declared : (b : Bool) (d : Result (Option DeclaredLinearScale)) (room : Result (Unit {0})) (p : Picture)
       → refuse b (kind 10 []) (then d λ declared. then room λ _. accepted (swept scheme file h p declared))
       ≡ then (then (refuse b (kind 10 []) (then (then d λ _. accepted (tt {0})) λ _. room)) λ _. accepted p) λ q. then d λ declared. accepted (swept scheme file h q declared)
   by_declared true d room p = refl
@@ -112,10 +109,10 @@ module _ (scheme : Scheme) (file : List ℕ) (h : Head) (na nc np : ℕ) where
   by_declared false (accepted declared) (accepted u) p = refl
   by_declared false (accepted declared) (refused x) p = refl
 
-  finish_is : (d : Result Declared) → d ≡ declared_scale h.scaling → scale_fields scheme file h.block ≡ accepted h.scaling → (p : Picture)
+  finish_is : (d : Result (Option DeclaredLinearScale)) → d ≡ declared_scale h.scaling → scale_fields scheme file h.block ≡ accepted h.scaling → (p : Picture)
       → finish scheme file na nc np h p
       ≡ then (then (admit (terms_for h.scaling np) na nc p.figures) λ _. accepted p) λ q. then d λ declared. accepted (swept scheme file h q declared)
-  unfolding finish admit room_in room_for too_few terms_for
+  unfolding finish admit room_in room_for terms_for
   finish_is d e es p =
       rw (asked_is scheme file h.block h.scaling es p.figures.packet, step_declared h.scaling, ← e)
       (by_declared (not (allowed scheme p.figures.packet)) d (room_for na nc np p.figures) p)
@@ -144,21 +141,21 @@ many body p e =
     let same = one_value y in
     ap (λ (q : Picture). length q.codes) (sym same) ∙ codes_long body g eg p.figures (ap (λ (q : Picture). q.figures) same)
 
-passed_value : {C : Type 0} (d : Result Declared) (r : Result (Unit {0})) → then (then d (λ _. accepted (tt {0}))) (λ _. r) ≡ accepted tt
-    → ((declared : Declared) → d ≡ accepted declared → r ≡ accepted tt → C) → C
+passed_value : {C : Type 0} (d : Result (Option DeclaredLinearScale)) (r : Result (Unit {0})) → then (then d (λ _. accepted (tt {0}))) (λ _. r) ≡ accepted tt
+    → ((declared : Option DeclaredLinearScale) → d ≡ accepted declared → r ≡ accepted tt → C) → C
 passed_value (accepted declared) r e k = k declared refl e
 passed_value (refused x) r e k = clash tt x e
 
 -- what is known of figures that the terms of a scaling have let pass
-pub record Admitted (d : Result Declared) (nc np : ℕ) (f : Figures) : Type 0 where
-  pub declared : Declared
+pub record Admitted (d : Result (Option DeclaredLinearScale)) (nc np : ℕ) (f : Figures) : Type 0 where
+  pub declared : Option DeclaredLinearScale
   pub declares : d ≡ accepted declared
   pub codes_room : f.n_radials * f.n_bins ≤ nc
   pub physical_room : f.n_radials * f.n_bins ≤ np
 
-pub admitted : (s : Scaling) (d : Result Declared) → d ≡ declared_scale s → (na nc np : ℕ) (f : Figures)
+pub admitted : (s : Scaling) (d : Result (Option DeclaredLinearScale)) → d ≡ declared_scale s → (na nc np : ℕ) (f : Figures)
     → admit (terms_for s np) na nc f ≡ accepted tt → Admitted d nc np f
-unfolding admit room_in too_few terms_for
+unfolding admit room_in terms_for
 admitted s d is na nc np f e =
     passed (not (asked (packets_for s) f.packet)) _ _ tt e λ _ e₃.
     passed_value d _ (rw (step_declared s, ← is) at e₃) λ declared ed e₄.
@@ -168,14 +165,14 @@ admitted s d is na nc np f e =
     record { declared = declared; declares = ed; codes_room = ltb-false _ _ c; physical_room = ltb-false _ _ v }
 
 -- and once a body was read on them
-pub record Drawn (s : Scaling) (d : Result Declared) (body : List ℕ) (na nc np : ℕ) (f : Figures) : Type 0 where
+pub record Drawn (s : Scaling) (d : Result (Option DeclaredLinearScale)) (body : List ℕ) (na nc np : ℕ) (f : Figures) : Type 0 where
   pub picture : Picture
   pub is : decode_for (terms_for s np) body na nc ≡ accepted picture
   pub figures : picture.figures ≡ f
   pub many : length picture.codes ≡ f.n_radials * f.n_bins
   pub admitted : Admitted d nc np f
 
-pub drawn : (s : Scaling) (d : Result Declared) → d ≡ declared_scale s → (body : List ℕ) (na nc np : ℕ) {f : Figures}
+pub drawn : (s : Scaling) (d : Result (Option DeclaredLinearScale)) → d ≡ declared_scale s → (body : List ℕ) (na nc np : ℕ) {f : Figures}
     → accepted f ≡ figures_in (decode_for (terms_for s np) body na nc) → Drawn s d body na nc np f
 unfolding decode_for
 drawn s d is body na nc np {f} e =
@@ -201,13 +198,6 @@ fills scheme file clock h e codes np room = rw ((block_start scheme file clock h
 
 -- ---- the answers
 
-module _ (h : Head) (f : Figures) {d : DeclaredScaleRead} {D : Result Declared} (k : declared_scale_of d ≡ D) where
-  pub answer_refused : {e : Level3DecodeError} → d ≡ DeclaredScaleRead.Refused e → refused (refusal_of e) ≡ sweep_with h D f
-  answer_refused is = ap (λ y. sweep_with h y f) (ap declared_scale_of (sym is) ∙ k)
-
-  pub answer_value : {declared : Declared} → d ≡ DeclaredScaleRead.Value declared → sweep_with h (accepted declared) f ≡ sweep_with h D f
-  answer_value is = ap (λ y. sweep_with h y f) (ap declared_scale_of (sym is) ∙ k)
-
 -- the head is read, the terms are made of it, and the body is read on them, with buffers of na, nc and np places
 module _ (scheme : Scheme) (file : List ℕ) (clock : ℕ) (body : List ℕ) (na nc np : ℕ) where
   pub no_head_lem : {x : Refusal} → refused x ≡ head_of scheme file clock → refused x ≡ sweep_of scheme file clock body na nc np
@@ -219,7 +209,7 @@ module _ (scheme : Scheme) (file : List ℕ) (clock : ℕ) (body : List ℕ) (na
   unfolding sweep_of
   no_picture_lem eh e = rw (← eh, ← e)
 
-  module _ (h : Head) (d : Result Declared) (t : Terms) (eh : accepted h ≡ head_of scheme file clock) (ed : d ≡ declared_scale h.scaling)
+  module _ (h : Head) (d : Result (Option DeclaredLinearScale)) (t : Terms) (eh : accepted h ≡ head_of scheme file clock) (ed : d ≡ declared_scale h.scaling)
       (et : t ≡ terms_for h.scaling np) where
     by_decode : sweep_of scheme file clock body na nc np ≡ then (decode_for t body na nc) λ p. then d λ declared. accepted (swept scheme file h p declared)
     unfolding sweep_of decode_for
@@ -245,7 +235,7 @@ module _ (scheme : Scheme) (file : List ℕ) (clock : ℕ) (body : List ℕ) (na
         i ∙ ap (sweep_with h d) (sym g.2) ∙ by d g.0
         ∙ ap sweep_in (sym (by_decode ∙ ap (λ z. then z λ p. then d λ declared. accepted (swept scheme file h p declared)) g.1))
       where
-        by : (y : Result Declared) (p : Picture) → sweep_with h y p.figures ≡ sweep_in (then y λ declared. accepted (swept scheme file h p declared))
+        by : (y : Result (Option DeclaredLinearScale)) (p : Picture) → sweep_with h y p.figures ≡ sweep_in (then y λ declared. accepted (swept scheme file h p declared))
         by (accepted declared) p = refl
         by (refused x) p = refl
 
@@ -258,7 +248,7 @@ module _ (scheme : Scheme) (file : List ℕ) (clock : ℕ) (body : List ℕ) (az
   S = sweep_of scheme file clock body (length az) (length cs) (length ph)
 
   -- what the code says and leaves, by a result
-  told : {d : Result Accepted} {r : SweepAnswer} {az' : List Float} {cs' : List ℕ} {ph' : List Float} → d ≡ S → answer_of r ≡ sweep_in d
+  told : {d : Result Accepted} {r : SweepAnswer} {az' : List Float} {cs' : List ℕ} {ph' : List Float} → d ≡ S → answer r ≡ sweep_in d
       → az' ≡ lent d (λ p. p.azimuths) az → cs' ≡ lent d (λ p. p.codes) cs → ph' ≡ lent d (λ p. p.physical) ph → Reads r az' cs' ph'
   told e i a c v =
       record {
@@ -268,32 +258,37 @@ module _ (scheme : Scheme) (file : List ℕ) (clock : ℕ) (body : List ℕ) (az
         physical = v ∙ ap (λ d. lent d (λ p. p.physical) ph) e;
       }
 
-  pub head_refused : {x : Level3DecodeError} → refused (refusal_of x) ≡ head_of scheme file clock → Reads (SweepAnswer.Refused x) az cs ph
+  pub head_refused : {x : Level3DecodeError} → refused (refusal_of x) ≡ head_of scheme file clock → Reads (Std.Err x) az cs ph
   head_refused e = told (no_head_lem scheme file clock body (length az) (length cs) (length ph) e) refl refl refl refl
 
   -- the head is read, the terms are made of it, and the body is read on them
-  module _ (h : Head) (d : Result Declared) (t : Terms) (eh : accepted h ≡ head_of scheme file clock) (ed : d ≡ declared_scale h.scaling)
+  module _ (h : Head) (d : Result (Option DeclaredLinearScale)) (t : Terms) (eh : accepted h ≡ head_of scheme file clock) (ed : d ≡ declared_scale h.scaling)
       (et : t ≡ terms_for h.scaling (length ph)) where
     abbrev D : Result Picture
     D = decode_for t body (length az) (length cs)
 
-    pub body_refused : {x : Level3DecodeError} {r : FiguresRead} {az' : List Float} {cs' : List ℕ} → r ≡ FiguresRead.Refused x
-        → Decodes (decode_for t body) az az' cs cs' r → Reads (SweepAnswer.Refused x) az' cs' ph
-    body_refused {x} is w =
-        let z = refused_in (λ (p : Picture). p.figures) D (ap figures_of (sym is) ∙ w.answered) in
+    pub body_refused : {x : Level3DecodeError} {az' : List Float} {cs' : List ℕ}
+        → Decodes (decode_for t body) az az' cs cs' (Std.Err x) → Reads (Std.Err x) az' cs' ph
+    body_refused {x} w =
+        let z = refused_in (λ (p : Picture). p.figures) D w.answered in
         told (no_body scheme file clock body (length az) (length cs) (length ph) h d t eh ed et z) refl (w.azimuths ∙ ap (λ d. lent d (λ p. p.azimuths) az) z) (w.codes ∙ ap (λ d. lent d (λ p. p.codes) cs) z) refl
 
 -- ---- after symbology's entry has accepted
 
 -- The head h was read, the declared scale d and the terms t made of it, and the body read on them: it has the figures f.
-pub record Decoded (scheme : Scheme) (file : List ℕ) (clock : ℕ) (body : List ℕ) (az : List Float) (cs : List ℕ) (ph : List Float) (h : Head) (d : Result Declared) (t : Terms) (f : Figures)
+pub record Decoded (scheme : Scheme) (file : List ℕ) (clock : ℕ) (body : List ℕ) (az : List Float) (cs : List ℕ) (ph : List Float) (h : Head) (d : Result (Option DeclaredLinearScale)) (t : Terms) (f : Figures)
     : Type 0 where
   pub head_is : accepted h ≡ head_of scheme file clock
   pub declared_is : d ≡ declared_scale h.scaling
   pub terms_are : t ≡ terms_for h.scaling (length ph)
   pub figures_are : accepted f ≡ figures_in (decode_for t body (length az) (length cs))
 
-module _ {scheme : Scheme} {file : List ℕ} {clock : ℕ} {body : List ℕ} {az : List Float} {cs : List ℕ} {ph : List Float} {h : Head} {d : Result Declared} {t : Terms} {f : Figures}
+pub decoded : {scheme : Scheme} {file : List ℕ} {clock : ℕ} {body : List ℕ} {az : List Float} {cs : List ℕ} {ph : List Float} {h : Head} {t : Terms} {f : Figures}
+    → accepted h ≡ head_of scheme file clock → t ≡ terms_for h.scaling (length ph) → accepted f ≡ figures_in (decode_for t body (length az) (length cs))
+    → Decoded scheme file clock body az cs ph h (declared_scale h.scaling) t f
+decoded eh et ef = record { head_is = eh; declared_is = refl; terms_are = et; figures_are = ef }
+
+module _ {scheme : Scheme} {file : List ℕ} {clock : ℕ} {body : List ℕ} {az : List Float} {cs : List ℕ} {ph : List Float} {h : Head} {d : Result (Option DeclaredLinearScale)} {t : Terms} {f : Figures}
     (w : Decoded scheme file clock body az cs ph h d t f) where
   pub drawn_here : Drawn h.scaling d body (length az) (length cs) (length ph) f
   drawn_here =
@@ -324,7 +319,7 @@ module _ {scheme : Scheme} {file : List ℕ} {clock : ℕ} {body : List ℕ} {az
     pub fill_accepts : {C : Type 0} {x : Refusal} → ◌≡◌ {A = Result (Unit {0})} (refused x) (then Fill λ _. accepted tt) → C
     fill_accepts {C} {x} e = clash tt x (e ∙ ap {B = Result (Unit {0})} (λ r. then r λ _. accepted tt) filled)
 
-    pub read : {r : SweepAnswer} {az' ph' : List Float} → answer_of r ≡ sweep_with h d f
+    pub read : {r : SweepAnswer} {az' ph' : List Float} → answer r ≡ sweep_with h d f
         → az' ≡ lent (decode_for t body (length az) (length cs)) (λ p. p.azimuths) az → ph' ≡ lent Fill (λ values. values) ph
         → Reads scheme file clock body az cs ph r az' cs' ph'
     read i a v =

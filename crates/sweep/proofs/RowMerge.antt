@@ -9,6 +9,7 @@ use mathlib.Core.Path.{◌≡◌, refl, sym, ap, ap₂, ◌∙◌}
 use lib.ListN.{length, get_or}
 use lib.Dec.{eqb}
 use borrow.Author.Tests.{eq-eqb, eqb-true}
+use Rattle.std.proofs.lemmas.Slice.Eq.{bytes_eq-Decides}
 use Rattle.wire.specs.Refusal.{Refusal, kind, nat}
 use Rattle.wire.specs.Result.{Result, accepted, refused}
 use Rattle.wire.specs.Reading.{marked}
@@ -21,22 +22,6 @@ use Rattle.symbology.specs.Merge.{disagree, agreed, either, merge_rows}
 -- what a radial's data make
 abbrev pub Row : Type 0
 Row = Result (List ℕ)
-
--- ---- equal lists
-
-pub list_same : (l : List ℕ) → same l l ≡ true
-unfolding same
-list_same [] = refl
-list_same (x ∷ l) = rw (eq-eqb x x refl) (list_same l)
-
-pub list_is : (l m : List ℕ) → same l m ≡ true → l ≡ m
-unfolding same
-list_is [] [] h = refl
-list_is [] (y ∷ m) h = let z : ◌≡◌ {A = ℕ} 0 1 = cc in absurd (omega arith)
-list_is (x ∷ l) [] h = let z : ◌≡◌ {A = ℕ} 0 1 = cc in absurd (omega arith)
-list_is (x ∷ l) (y ∷ m) h =
-    let k = both (eqb x y) (same l m) h in
-    ap₂ (λ (a : ℕ) (t : List ℕ). a ∷ t) (eqb-true x y k.0) (list_is l m k.1)
 
 -- ---- one place
 
@@ -69,7 +54,7 @@ at_place (accepted c) (accepted d) o h = by (same c d) refl
   where
     by : (b : Bool) → same c d ≡ b → Differs (accepted c) (accepted d) o ⊎ Alike (accepted c) (accepted d) o
     by true e =
-        let q : c ≡ d = list_is c d e in
+        let q : c ≡ d = (bytes_eq-Decides c d).0 e in
         let r : c ≡ o = ⊎_elim (λ k. one_value k) (λ k. q ∙ one_value k) h in
         inr (record {
           test = rw e refl;
@@ -77,7 +62,7 @@ at_place (accepted c) (accepted d) o h = by (same c d) refl
           merged = ap whole_row r;
         })
     by false e =
-        let ne : c ≢ d = λ q. let t : true ≡ false = sym (list_same d) ∙ rw q at e in let z : ◌≡◌ {A = ℕ} 0 1 = cc in omega arith in
+        let ne : c ≢ d = λ q. let t : true ≡ false = sym ((bytes_eq-Decides d d).1 refl) ∙ rw q at e in let z : ◌≡◌ {A = ℕ} 0 1 = cc in omega arith in
         inl (record {
           test = rw e refl;
           one = ⊎_elim (λ k. inr (d, refl, λ q. ne (one_value k ∙ sym q))) (λ k. inl (c, refl, λ q. ne (q ∙ sym (one_value k)))) h;

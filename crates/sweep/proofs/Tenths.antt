@@ -1,6 +1,7 @@
 -- The values of an accepted halfword sweep are near the exact tenths, and rise with their codes: in the sweep reading's answer, and in the
 -- buffers of any call that the contract of `read_sweep` allows (M-108). Assumes nothing.
 use Prim.Native.Nat.{ℕ, zero, suc, ◌≤◌, ◌<◌}
+use Rattle.std.specs.Prelude as Std
 use native.Mathlib.Nat.{le_of_suc-le-suc, not-suc-le-zero}
 use native.Mathlib.Omega.{arith}
 use mathlib.Core.List.{List, [], ◌∷◌, map}
@@ -24,8 +25,7 @@ use Rattle.symbology.specs.declared.figures.Packet.{Packet}
 use Rattle.symbology.specs.declared.figures.Packet.TheVariants.{Packet16, PacketAf1f, Packet28}
 use Rattle.symbology.proofs.Widths.{OfBits}
 use Rattle.sweep.specs.declared.sweep.Sweep.{Sweep}
-use Rattle.sweep.specs.declared.sweep.SweepAnswer.TheVariants as SweepAnswer
-use Rattle.sweep.specs.Sweep.{allowed, Accepted, finish, sweep_of, Buffers, read_into, Ran}
+use Rattle.sweep.specs.Sweep.{allowed, Accepted, finish, sweep_of, Buffers, read_into, Ran, SweepAnswer}
 use Rattle.sweep.specs.Tenths.{InTenths}
 use Rattle.sweep.proofs.Codes.{sweep_codes_fit}
 use Rattle.sweep.proofs.Parts.{block_start, parts, sizes}
@@ -88,7 +88,7 @@ sweep_tenths file clock b na nc np p file-bytes body_bytes acc =
     }
 
 -- as a run leaves them in the buffers
-run_tenths : (file : List ℕ) (clock : ℕ) (b : List ℕ) (old new : Buffers) (s : Sweep) → Bytes file → Bytes b → Ran Scheme.Halfword file clock b old new (SweepAnswer.Accepted s)
+run_tenths : (file : List ℕ) (clock : ℕ) (b : List ℕ) (old new : Buffers) (s : Sweep) → Bytes file → Bytes b → Ran Scheme.Halfword file clock b old new (Std.Ok s)
     → InTenths file (cells s) new.codes new.physical
 run_tenths file clock b old new s file-bytes body_bytes ran =
     through (read_into Scheme.Halfword file clock b old) _ s (sym ran.answered) λ p acc e.
@@ -101,9 +101,9 @@ run_tenths file clock b old new s file-bytes body_bytes ran =
     (sweep_tenths file clock b _ _ _ p file-bytes body_bytes acc))
 
 -- Any call under the halfword scheme that is accepted. That each entry of the file is a u8 is what owning a `&[u8]` gives, as for the body.
-pub call_tenths : (c : Call) → Allowed c → Fit (f_int w8) 0 (file c) → scheme c ≡ Scheme.Halfword → (s : Sweep) → c.answer ≡ SweepAnswer.Accepted s
+pub call_tenths : (c : Call) → Allowed c → Fit (f_int w8) 0 (file c) → scheme c ≡ Scheme.Halfword → (s : Sweep) → c.answer ≡ Std.Ok s
     → InTenths (file c) (cells s) (new c).codes (new c).physical
 call_tenths c allowed good halfword s is =
     run_tenths (file c) (clock c) (body c) (old c) (new c) s (λ k. omega (arith, good k)) (λ k. omega (arith, c.good k))
-    (subst (λ (h : Scheme). Ran h (file c) (clock c) (body c) (old c) (new c) (SweepAnswer.Accepted s)) halfword
+    (subst (λ (h : Scheme). Ran h (file c) (clock c) (body c) (old c) (new c) (Std.Ok s)) halfword
     (subst (Ran (scheme c) (file c) (clock c) (body c) (old c) (new c)) is (call_runs c allowed)))

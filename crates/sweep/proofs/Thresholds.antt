@@ -1,6 +1,7 @@
 -- The values of a legacy sweep are the levels of the 32 bytes that `threshold_data` copies, and it is refused with 3 and index 22 where that
 -- is; over the sweep reading, and over any calls that the contracts allow (M-103). Assumes nothing.
 use Prim.Native.Nat.{ℕ, ◌+◌, ◌*◌}
+use Rattle.std.specs.Prelude as Std
 use mathlib.Core.List.{List, [], ◌∷◌, map}
 use mathlib.Core.Path.{◌≡◌, sym, ap, ap₂, subst, ◌∙◌}
 use lib.Ieee.{Float}
@@ -17,8 +18,7 @@ use Rattle.scale.specs.declared.physical.Scheme.{Scheme}
 use Rattle.scale.proofs.Thresholds.{only_3, same_values, place_of, refused_too, Copying, Decoding, decoded}
 use Rattle.sweep.specs.declared.plan.Head.{Head}
 use Rattle.sweep.specs.declared.sweep.Sweep.{Sweep}
-use Rattle.sweep.specs.declared.sweep.SweepAnswer.TheVariants as SweepAnswer
-use Rattle.sweep.specs.Sweep.{head_of, Accepted, sweep_of, Buffers, read_into, Ran}
+use Rattle.sweep.specs.Sweep.{head_of, Accepted, sweep_of, Buffers, read_into, Ran, SweepAnswer}
 use Rattle.sweep.proofs.Parts.{block_start, parts, sizes}
 use Rattle.sweep.proofs.Reading.{front_is}
 use Rattle.sweep.proofs.CodeRuns.{Call, Allowed, scheme, file, clock, body, old, new, call_runs}
@@ -76,7 +76,7 @@ abbrev pub cells : Sweep → ℕ
 cells s = s.figures.n_radials * s.figures.n_bins
 
 -- what an accepted run leaves, by the levels of a copy
-run_values : (post : Float) (file : List ℕ) (clock : ℕ) (b : List ℕ) (old new : Buffers) (s : Sweep) → Ran (Scheme.Legacy post) file clock b old new (SweepAnswer.Accepted s)
+run_values : (post : Float) (file : List ℕ) (clock : ℕ) (b : List ℕ) (old new : Buffers) (s : Sweep) → Ran (Scheme.Legacy post) file clock b old new (Std.Ok s)
     → (header : ℕ) → message_header file ≡ accepted header
     → take (cells s) new.physical ≡ map (valued_by file (header + 18) post) (take (cells s) new.codes)
 run_values post file clock b old new s ran header is =
@@ -93,13 +93,13 @@ run_values post file clock b old new s ran header is =
 
 -- A legacy call of `read_sweep` that is accepted; one of `threshold_data` on the same file and its block; one of `decode_legacy16` on those 32
 -- bytes with the same post-scale: each value is the level that the code names.
-pub legacy_calls : (c : Call) → Allowed c → (s : Sweep) → c.answer ≡ SweepAnswer.Accepted s → (t : Copying) (d : Decoding)
-    → d.given.0.now ≡ t.answer.«data» → scheme c ≡ Scheme.Legacy d.given.1.0 → t.given.0.now ≡ file c
+pub legacy_calls : (c : Call) → Allowed c → (s : Sweep) → c.answer ≡ Std.Ok s → (t : Copying) (d : Decoding)
+    → (bytes : List ℕ) → t.answer ≡ Std.Ok bytes → d.given.0.now ≡ bytes → scheme c ≡ Scheme.Legacy d.given.1.0 → t.given.0.now ≡ file c
     → (header : ℕ) → message_header (file c) ≡ accepted header → t.given.1.0 ≡ header + 18
     → take (cells s) (new c).physical ≡ map (level_of d.answer) (take (cells s) (new c).codes)
-legacy_calls c allowed s is t d handed schemes files header there block =
+legacy_calls c allowed s is t d bytes gave handed schemes files header there block =
     run_values d.given.1.0 (file c) (clock c) (body c) (old c) (new c) s
-    (subst (λ (h : Scheme). Ran h (file c) (clock c) (body c) (old c) (new c) (SweepAnswer.Accepted s)) schemes
+    (subst (λ (h : Scheme). Ran h (file c) (clock c) (body c) (old c) (new c) (Std.Ok s)) schemes
     (subst (Ran (scheme c) (file c) (clock c) (body c) (old c) (new c)) is (call_runs c allowed))) header there
     ∙ ap (λ (l : List Float). map (level_of l) (take (cells s) (new c).codes))
-    (ap₂ (λ (f : List ℕ) (n : ℕ). levels_of (threshold_bytes f (threshold_place f n)) 0 d.given.1.0) (sym files) (sym block) ∙ decoded t d handed)
+    (ap₂ (λ (f : List ℕ) (n : ℕ). levels_of (threshold_bytes f (threshold_place f n)) 0 d.given.1.0) (sym files) (sym block) ∙ decoded t d bytes gave handed)

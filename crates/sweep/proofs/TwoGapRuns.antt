@@ -1,16 +1,16 @@
 -- What M-101 asks, from the sweep reading to two runs of the code. Assumes nothing.
 use Prim.Native.Nat.{ℕ, ◌*◌, ◌≤◌, ◌<◌}
+use Rattle.std.specs.Prelude as Std
 use mathlib.Core.List.{List, ◌++◌, map}
 use mathlib.Core.Path.{◌≡◌, sym, ap, ◌∙◌, subst}
 use lib.ListN.{length, get_or, take, drop, get_or-append}
 use lib.Seq.{take_at}
-use Rattle.wire.specs.Result.{Result, accepted, then, lent}
+use Rattle.wire.specs.Result.{Result, accepted, answer, then, lent}
 use Rattle.wire.proofs.Results.{through}
 use Rattle.scale.specs.declared.physical.Scheme.{Scheme}
 use Rattle.sweep.specs.declared.sweep.Sweep.{Sweep}
-use Rattle.sweep.specs.declared.sweep.SweepAnswer.{SweepAnswer}
 use Rattle.symbology.specs.Words.{Bytes, DamageInWords}
-use Rattle.sweep.specs.Sweep.{Accepted, answer_of, Buffers, read_into, Ran}
+use Rattle.sweep.specs.Sweep.{Accepted, Buffers, read_into, Ran, SweepAnswer}
 use Rattle.sweep.specs.GapSweep.{GapSweep, gap_sweep_of, GapBuffers, gaps_into, MarkedRan, GapRan}
 use Rattle.sweep.specs.Demand3.{row_at}
 use Rattle.sweep.specs.WithGaps.{GapRows, GapKept, NoneMarked, SamePicture, AsOrdinary, SameRoom, GapRuns, SameFront, OrdinaryRuns}
@@ -22,8 +22,8 @@ use Rattle.sweep.proofs.TwoRuns.{Left, left, answer_is}
 use Rattle.sweep.proofs.GapDamage.{gap_damage}
 use Rattle.sweep.proofs.GapParts.{GapSizes, gap_sweep_sizes}
 
-module _ (scheme : Scheme) (file : List ℕ) (clock : ℕ) (b b' : List ℕ) (old new : Buffers) (old' new' : GapBuffers) (answer' : SweepAnswer) (p : Accepted)
-    (ran : Ran scheme file clock b old new (SweepAnswer.Accepted p.sweep)) (ran' : GapRan scheme file clock b' old' new' answer') (same : SameRoom old old')
+module _ (scheme : Scheme) (file : List ℕ) (clock : ℕ) (b b' : List ℕ) (old new : Buffers) (old' new' : GapBuffers) (said' : SweepAnswer) (p : Accepted)
+    (ran : Ran scheme file clock b old new (Std.Ok p.sweep)) (ran' : GapRan scheme file clock b' old' new' said') (same : SameRoom old old')
     (acc : read_into scheme file clock b old ≡ accepted p) (small : Bytes b') (d : DamageInWords b p.sweep.figures b') (room : p.sweep.figures.n_radials ≤ length old'.marks) where
   kept : GapKept scheme file clock b b' (length old.azimuths) (length old.codes) (length old.physical) (length old'.marks) p
   kept = gap_damage scheme file clock b b' _ _ _ _ p acc small d room
@@ -67,10 +67,10 @@ module _ (scheme : Scheme) (file : List ℕ) (clock : ℕ) (b b' : List ℕ) (ol
         values = λ r lt m. physical_at r lt ∙ k.values r lt m ∙ ap (map _) (sym (codes_at r lt));
       }
 
-  runs : GapRuns scheme file b b' p.sweep new new' answer'
+  runs : GapRuns scheme file b b' p.sweep new new' said'
   runs =
       record {
-        answer = answer_is answer' _ (ran'.answered ∙ ap (λ x. then x λ q. accepted q.sweep) gave ∙ ap accepted kept.sweep);
+        answer = answer_is said' _ (ran'.answered ∙ ap (λ x. then x λ q. accepted q.sweep) gave ∙ ap accepted kept.sweep);
         azimuths =
             ap (take p.sweep.figures.n_radials) (ran'.azimuths ∙ ap (λ x. lent x (λ q. q.azimuths) old'.azimuths) gave ∙ ap (λ l. l ++ drop (length l) old'.azimuths) kept.azimuths)
             ∙ (take_at p.azimuths (drop (length p.azimuths) old'.azimuths) _ (sizes scheme file clock b _ _ _ p acc).azimuths)
@@ -78,19 +78,19 @@ module _ (scheme : Scheme) (file : List ℕ) (clock : ℕ) (b b' : List ℕ) (ol
         rows = rows;
       }
 
-pub two_gap_runs : (scheme : Scheme) (file : List ℕ) (clock : ℕ) (b b' : List ℕ) (s : Sweep) (old new : Buffers) (old' new' : GapBuffers) (answer' : SweepAnswer)
-    → Ran scheme file clock b old new (SweepAnswer.Accepted s) → GapRan scheme file clock b' old' new' answer' → SameRoom old old'
-    → Bytes b' → DamageInWords b s.figures b' → s.figures.n_radials ≤ length old'.marks → GapRuns scheme file b b' s new new' answer'
-two_gap_runs scheme file clock b b' s old new old' new' answer' ran ran' same small d room =
+pub two_gap_runs : (scheme : Scheme) (file : List ℕ) (clock : ℕ) (b b' : List ℕ) (s : Sweep) (old new : Buffers) (old' new' : GapBuffers) (said' : SweepAnswer)
+    → Ran scheme file clock b old new (Std.Ok s) → GapRan scheme file clock b' old' new' said' → SameRoom old old'
+    → Bytes b' → DamageInWords b s.figures b' → s.figures.n_radials ≤ length old'.marks → GapRuns scheme file b b' s new new' said'
+two_gap_runs scheme file clock b b' s old new old' new' said' ran ran' same small d room =
     through (read_into scheme file clock b old) _ s (sym ran.answered) λ p acc e.
     let is : p.sweep ≡ s = cc in
-    subst (λ (s : Sweep). GapRuns scheme file b b' s new new' answer') is
-    (runs scheme file clock b b' old new old' new' answer' p (subst (λ (s : Sweep). Ran scheme file clock b old new (SweepAnswer.Accepted s)) (sym is) ran) ran' same acc small (rw (← is) at d) (rw (← is) at room))
+    subst (λ (s : Sweep). GapRuns scheme file b b' s new new' said') is
+    (runs scheme file clock b b' old new old' new' said' p (subst (λ (s : Sweep). Ran scheme file clock b old new (Std.Ok s)) (sym is) ran) ran' same acc small (rw (← is) at d) (rw (← is) at room))
 
 -- ---- the same picture in the buffers of two runs, the second one that leaves marks
 
-pub same_front : (scheme : Scheme) (file : List ℕ) (clock : ℕ) (b : List ℕ) (old new : Buffers) {answer : SweepAnswer} (p : Accepted) → Ran scheme file clock b old new answer
-    → read_into scheme file clock b old ≡ accepted p → (old' new' : GapBuffers) {R : Result GapSweep} {answer' : SweepAnswer} → MarkedRan R old' new' answer'
+pub same_front : (scheme : Scheme) (file : List ℕ) (clock : ℕ) (b : List ℕ) (old new : Buffers) {said : SweepAnswer} (p : Accepted) → Ran scheme file clock b old new said
+    → read_into scheme file clock b old ≡ accepted p → (old' new' : GapBuffers) {R : Result GapSweep} {said' : SweepAnswer} → MarkedRan R old' new' said'
     → (g : GapSweep) → R ≡ accepted g → SamePicture g p → SameFront p.sweep.figures new new'
 same_front scheme file clock b old new p ran acc old' new' ran' g acc' k =
     let z = sizes scheme file clock b _ _ _ p acc in
@@ -108,21 +108,21 @@ same_front scheme file clock b old new p ran acc old' new' ran' g acc' k =
 
 -- ---- the same body with gaps and without
 
-module _ (scheme : Scheme) (file : List ℕ) (clock : ℕ) (b : List ℕ) (old new : Buffers) (old' new' : GapBuffers) (answer answer' : SweepAnswer)
-    (ran : Ran scheme file clock b old new answer) (ran' : GapRan scheme file clock b old' new' answer') (same : SameRoom old old')
-    (room : (s : Sweep) → answer ≡ SweepAnswer.Accepted s → s.figures.n_radials ≤ length old'.marks) where
+module _ (scheme : Scheme) (file : List ℕ) (clock : ℕ) (b : List ℕ) (old new : Buffers) (old' new' : GapBuffers) (said said' : SweepAnswer)
+    (ran : Ran scheme file clock b old new said) (ran' : GapRan scheme file clock b old' new' said') (same : SameRoom old old')
+    (room : (s : Sweep) → said ≡ Std.Ok s → s.figures.n_radials ≤ length old'.marks) where
   -- what the two answers say of the readings
-  ordinary_accepts : (p : Accepted) → read_into scheme file clock b old ≡ accepted p → answer ≡ SweepAnswer.Accepted p.sweep
-  ordinary_accepts p acc = answer_is answer _ (ran.answered ∙ ap (λ x. then x λ q. accepted q.sweep) acc)
+  ordinary_accepts : (p : Accepted) → read_into scheme file clock b old ≡ accepted p → said ≡ Std.Ok p.sweep
+  ordinary_accepts p acc = answer_is said _ (ran.answered ∙ ap (λ x. then x λ q. accepted q.sweep) acc)
 
-  gap_accepts : (g : GapSweep) → gaps_into scheme file clock b old' ≡ accepted g → answer' ≡ SweepAnswer.Accepted g.sweep
-  gap_accepts g acc = answer_is answer' _ (ran'.answered ∙ ap (λ x. then x λ q. accepted q.sweep) acc)
+  gap_accepts : (g : GapSweep) → gaps_into scheme file clock b old' ≡ accepted g → said' ≡ Std.Ok g.sweep
+  gap_accepts g acc = answer_is said' _ (ran'.answered ∙ ap (λ x. then x λ q. accepted q.sweep) acc)
 
-  ordinary_gave : (s : Sweep) → answer ≡ SweepAnswer.Accepted s → (p : Accepted) × (read_into scheme file clock b old ≡ accepted p) × (p.sweep ≡ s)
-  ordinary_gave s e = given_in (λ (p : Accepted). p.sweep) (read_into scheme file clock b old) (sym (ap answer_of e) ∙ ran.answered)
+  ordinary_gave : (s : Sweep) → said ≡ Std.Ok s → (p : Accepted) × (read_into scheme file clock b old ≡ accepted p) × (p.sweep ≡ s)
+  ordinary_gave s e = given_in (λ (p : Accepted). p.sweep) (read_into scheme file clock b old) (sym (ap answer e) ∙ ran.answered)
 
-  gap_gave : (s : Sweep) → answer' ≡ SweepAnswer.Accepted s → (g : GapSweep) × (gaps_into scheme file clock b old' ≡ accepted g) × (g.sweep ≡ s)
-  gap_gave s e = given_in (λ (g : GapSweep). g.sweep) (gaps_into scheme file clock b old') (sym (ap answer_of e) ∙ ran'.answered)
+  gap_gave : (s : Sweep) → said' ≡ Std.Ok s → (g : GapSweep) × (gaps_into scheme file clock b old' ≡ accepted g) × (g.sweep ≡ s)
+  gap_gave s e = given_in (λ (g : GapSweep). g.sweep) (gaps_into scheme file clock b old') (sym (ap answer e) ∙ ran'.answered)
 
   -- with the first's buffer lengths
   again : gaps_into scheme file clock b old' ≡ gap_sweep_of scheme file clock b (length old.azimuths) (length old.codes) (length old.physical) (length old'.marks)
@@ -141,7 +141,7 @@ module _ (scheme : Scheme) (file : List ℕ) (clock : ℕ) (b : List ℕ) (old n
   none_left : (s : Sweep) → NoneMarked s.figures new'.marks → (g : GapSweep) → gaps_into scheme file clock b old' ≡ accepted g → g.sweep ≡ s → NoneMarked g.sweep.figures g.marks
   none_left s none g acc is r lt = sym (marks_left g acc r lt) ∙ none r (subst (λ (t : Sweep). r < t.figures.n_radials) is lt)
 
-  pub ordinary_runs : OrdinaryRuns answer answer' new new'
+  pub ordinary_runs : OrdinaryRuns said said' new new'
   ordinary_runs =
       record {
         exactly = (

@@ -1,18 +1,18 @@
 -- Demand 3, from the sweep reading to two runs of the code. Assumes nothing.
 use Prim.Native.Nat.{ℕ, ◌<◌}
+use Rattle.std.specs.Prelude as Std
 use mathlib.Core.List.{List, map}
 use mathlib.Core.Logic.{◌↔◌}
 use mathlib.Core.Path.{◌≡◌, sym, ap, ◌∙◌, subst}
 use lib.ListN.{length, take, drop}
 use lib.Seq.{take_at}
 use Rattle.wire.specs.Refusal.{Refusal}
-use Rattle.wire.specs.Result.{Result, accepted, refused, then}
+use Rattle.wire.specs.Result.{Result, accepted, answer, refused, then}
 use Rattle.scale.specs.declared.physical.Scheme.{Scheme}
 use Rattle.symbology.specs.declared.figures.Figures.{Figures}
 use Rattle.symbology.specs.Words.{Bytes, DamageInWords}
 use Rattle.sweep.specs.declared.sweep.Sweep.{Sweep}
-use Rattle.sweep.specs.declared.sweep.SweepAnswer.{SweepAnswer}
-use Rattle.sweep.specs.Sweep.{Accepted, sweep_of, answer_of, Buffers, read_into, Ran}
+use Rattle.sweep.specs.Sweep.{Accepted, sweep_of, Buffers, read_into, Ran, SweepAnswer}
 use Rattle.sweep.specs.Demand3.{row_at, RowsKept, Kept, SameLengths, TwoRuns}
 use Rattle.sweep.proofs.RowLaws.{row_front}
 use Rattle.wire.proofs.Results.{clash, through}
@@ -25,9 +25,9 @@ pub record Left (f : Figures) (p : Accepted) (new : Buffers) : Type 0 where
   pub codes : (r : ℕ) → r < f.n_radials → row_at f.n_bins r new.codes ≡ row_at f.n_bins r p.codes
   pub physical : (r : ℕ) → r < f.n_radials → row_at f.n_bins r new.physical ≡ row_at f.n_bins r p.physical
 
-pub left : (scheme : Scheme) (file : List ℕ) (clock : ℕ) (b : List ℕ) (old new : Buffers) (answer : SweepAnswer) (p : Accepted) → Ran scheme file clock b old new answer
+pub left : (scheme : Scheme) (file : List ℕ) (clock : ℕ) (b : List ℕ) (old new : Buffers) (said : SweepAnswer) (p : Accepted) → Ran scheme file clock b old new said
     → read_into scheme file clock b old ≡ accepted p → Left p.sweep.figures p new
-left scheme file clock b old new answer p ran e =
+left scheme file clock b old new said p ran e =
     let z = sizes scheme file clock b _ _ _ p e in
     let n = p.sweep.figures.n_radials in
     let bins = p.sweep.figures.n_bins in
@@ -51,31 +51,31 @@ rows_left scheme file f b b' p p' new new' l l' k =
     }
 
 -- an answer that says that s is accepted
-pub answer_is : (answer : SweepAnswer) (s : Sweep) → answer_of answer ≡ accepted s → answer ≡ SweepAnswer.Accepted s
-answer_is (SweepAnswer.Accepted t) s e = let q : t ≡ s = cc in ap SweepAnswer.Accepted q
-answer_is (SweepAnswer.Refused x) s e = clash s _ e
+pub answer_is : (said : SweepAnswer) (s : Sweep) → answer said ≡ accepted s → said ≡ Std.Ok s
+answer_is (Std.Ok t) s e = let q : t ≡ s = cc in ap Std.Ok q
+answer_is (Std.Err x) s e = clash s _ e
 
 -- an answer that only hands a result on is refused as it is
-handed_on : {A B : Type 0} (r : Result A) (answer : Result B) (h : A → B) → answer ≡ then r (λ a. accepted (h a)) → (x : Refusal) → (r ≡ refused x) ↔ (answer ≡ refused x)
-handed_on {A = A} r answer h is x = (λ e. is ∙ rw e, λ e. by r (sym is ∙ e))
+handed_on : {A B : Type 0} (r : Result A) (said : Result B) (h : A → B) → said ≡ then r (λ a. accepted (h a)) → (x : Refusal) → (r ≡ refused x) ↔ (said ≡ refused x)
+handed_on {A = A} r said h is x = (λ e. is ∙ rw e, λ e. by r (sym is ∙ e))
   where
     by : (r : Result A) → then r (λ a. accepted (h a)) ≡ refused x → r ≡ refused x
     by (accepted a) k = clash (h a) x (sym k)
     by (refused y) k = cc
 
-pub two_runs : (scheme : Scheme) (file : List ℕ) (clock : ℕ) (b b' : List ℕ) (s : Sweep) (old new old' new' : Buffers) (answer' : SweepAnswer)
-    → Ran scheme file clock b old new (SweepAnswer.Accepted s) → Ran scheme file clock b' old' new' answer' → SameLengths old old'
-    → Bytes b' → DamageInWords b s.figures b' → TwoRuns scheme file b b' s new new' answer'
-two_runs scheme file clock b b' s old new old' new' answer' ran ran' same small d =
+pub two_runs : (scheme : Scheme) (file : List ℕ) (clock : ℕ) (b b' : List ℕ) (s : Sweep) (old new old' new' : Buffers) (said' : SweepAnswer)
+    → Ran scheme file clock b old new (Std.Ok s) → Ran scheme file clock b' old' new' said' → SameLengths old old'
+    → Bytes b' → DamageInWords b s.figures b' → TwoRuns scheme file b b' s new new' said'
+two_runs scheme file clock b b' s old new old' new' said' ran ran' same small d =
     through (read_into scheme file clock b old) _ s (sym ran.answered) λ p acc e.
     let is : p.sweep ≡ s = cc in
-    subst (λ (s : Sweep). TwoRuns scheme file b b' s new new' answer') is (from p acc (rw (← is) at d))
+    subst (λ (s : Sweep). TwoRuns scheme file b b' s new new' said') is (from p acc (rw (← is) at d))
   where
     -- the second, with the first's buffer lengths
     again : read_into scheme file clock b' old' ≡ sweep_of scheme file clock b' (length old.azimuths) (length old.codes) (length old.physical)
     again = rw (same.azimuths, same.codes, same.physical)
 
-    from : (p : Accepted) → read_into scheme file clock b old ≡ accepted p → DamageInWords b p.sweep.figures b' → TwoRuns scheme file b b' p.sweep new new' answer'
+    from : (p : Accepted) → read_into scheme file clock b old ≡ accepted p → DamageInWords b p.sweep.figures b' → TwoRuns scheme file b b' p.sweep new new' said'
     from p acc d =
         let k = demand3 scheme file clock b b' _ _ _ p acc small d in
         record {
@@ -84,10 +84,10 @@ two_runs scheme file clock b b' s old new old' new' answer' ran ran' same small 
         }
       where
         kept : Kept scheme file clock b b' (length old.azimuths) (length old.codes) (length old.physical) p
-            → (answer' ≡ SweepAnswer.Accepted p.sweep)
+            → (said' ≡ Std.Ok p.sweep)
             × (take p.sweep.figures.n_radials new'.azimuths ≡ take p.sweep.figures.n_radials new.azimuths)
             × RowsKept scheme file p.sweep.figures b b' new.codes new'.codes new.physical new'.physical
         kept k =
             let l = left scheme file clock b old new _ p ran acc in
-            let l' = subst (λ (t : Sweep). Left t.figures k.second new') k.sweep (left scheme file clock b' old' new' answer' k.second ran' (again ∙ k.gives)) in
-            (answer_is answer' _ (ran'.answered ∙ rw (again, k.gives, k.sweep)), l'.azimuths ∙ k.azimuths ∙ sym l.azimuths, rows_left scheme file _ b b' p k.second new new' l l' k.rows)
+            let l' = subst (λ (t : Sweep). Left t.figures k.second new') k.sweep (left scheme file clock b' old' new' said' k.second ran' (again ∙ k.gives)) in
+            (answer_is said' _ (ran'.answered ∙ rw (again, k.gives, k.sweep)), l'.azimuths ∙ k.azimuths ∙ sym l.azimuths, rows_left scheme file _ b b' p k.second new new' l l' k.rows)

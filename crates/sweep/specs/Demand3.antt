@@ -2,9 +2,10 @@
 -- the first's sweep is accepted, and the second differs from it just in data bytes of radials and in unread bytes. All is said in document
 -- 01's words: "differs just in" is symbology's `DamageInWords`, "changed" its `ChangedIn`, a radial's data `data_of`, "make a row" `RowInWords`.
 use Rattle.std.specs.Prelude.{ℕ, ◌+◌, ◌*◌, ◌<◌, List, [], ◌∷◌, map, ◌↔◌, ◌≡◌, length, get_or, take, drop, Float}
+use Rattle.std.specs.Prelude as Std
 use Rattle.wire.specs.Bytes.{signed}
 use Rattle.wire.specs.Refusal.{Refusal, kind, nat, whole}
-use Rattle.wire.specs.Result.{Result, accepted, refused}
+use Rattle.wire.specs.Result.{Result, accepted, answer, refused}
 use Rattle.wire.specs.Text.{leading}
 use Rattle.head.specs.Header.{message_header}
 use Rattle.scale.specs.Physical.{physical_of}
@@ -15,8 +16,7 @@ use Rattle.symbology.specs.declared.figures.Figures.{Figures}
 use Rattle.symbology.specs.Rows.{row_of, reach, words, is_level}
 use Rattle.symbology.specs.Words.{data_of, ChangedIn}
 use Rattle.sweep.specs.declared.sweep.Sweep.{Sweep}
-use Rattle.sweep.specs.declared.sweep.SweepAnswer.{SweepAnswer}
-use Rattle.sweep.specs.Sweep.{Accepted, sweep_of, answer_of, Buffers}
+use Rattle.sweep.specs.Sweep.{Accepted, sweep_of, Buffers, SweepAnswer}
 use Rattle.sweep.specs.InWords.{RowInWords}
 
 -- row r of a buffer by rows
@@ -100,9 +100,9 @@ pub record SameLengths (one other : Buffers) : Type 0 where
   pub physical : length other.physical ≡ length one.physical
 
 -- The first run read b, accepted it with s and left `new`; the second read b', answered `answer'` and left `new'`.
-pub record TwoRuns (scheme : Scheme) (file b b' : List ℕ) (s : Sweep) (new new' : Buffers) (answer' : SweepAnswer) : Type 0 where
-  pub refusal : Refuses s.figures b b' (answer_of answer')
+pub record TwoRuns (scheme : Scheme) (file b b' : List ℕ) (s : Sweep) (new new' : Buffers) (said' : SweepAnswer) : Type 0 where
+  pub refusal : Refuses s.figures b b' (answer said')
   pub otherwise : AllMake s.figures b b'
-      → (answer' ≡ SweepAnswer.Accepted s)
+      → (said' ≡ Std.Ok s)
       × (take s.figures.n_radials new'.azimuths ≡ take s.figures.n_radials new.azimuths)
       × RowsKept scheme file s.figures b b' new.codes new'.codes new.physical new'.physical

@@ -3,14 +3,13 @@
 use Rattle.std.specs.Prelude.{ℕ, zero, suc, List, [], ◌∷◌, ◌++◌, ◌≡◌, ltb, length, take, drop, replicate, Float}
 use Rattle.std.specs.Float.{nan}
 use Rattle.wire.specs.Refusal.{kind, buffer}
-use Rattle.wire.specs.Result.{Result, accepted, refused, refuse, then, lent}
+use Rattle.wire.specs.Result.{Result, accepted, answer, refused, refuse, then, lent}
 use Rattle.wire.specs.declared.error.Buffer.TheVariants as Buffer
 use Rattle.scale.specs.declared.physical.Scheme.{Scheme}
 use Rattle.symbology.specs.Answers.{GapPicture, gap_picture_of}
 use Rattle.sweep.specs.declared.plan.Head.{Head}
 use Rattle.sweep.specs.declared.sweep.Sweep.{Sweep}
-use Rattle.sweep.specs.declared.sweep.SweepAnswer.{SweepAnswer}
-use Rattle.sweep.specs.Sweep.{head_of, finish, answer_of}
+use Rattle.sweep.specs.Sweep.{head_of, finish, SweepAnswer}
 
 -- What acceptance gives: the picture with its gaps, and the marks.
 pub record GapSweep : Type 0 where
@@ -77,8 +76,8 @@ gaps_into scheme file clock body old =
     gap_sweep_of scheme file clock body (length old.azimuths) (length old.codes) (length old.physical) (length old.marks)
 
 -- A run that gives a picture with marks: the answer, and what the buffers hold before and after. `reading` is what is given.
-pub record MarkedRan (reading : Result GapSweep) (old new : GapBuffers) (answer : SweepAnswer) : Type 0 where
-  pub answered : answer_of answer ≡ gap_sweep_in reading
+pub record MarkedRan (reading : Result GapSweep) (old new : GapBuffers) (said : SweepAnswer) : Type 0 where
+  pub answered : answer said ≡ gap_sweep_in reading
   pub azimuths : new.azimuths ≡ lent reading (λ p. p.azimuths) old.azimuths
   pub codes : new.codes ≡ lent reading (λ p. p.codes) old.codes
   pub physical : new.physical ≡ lent reading (λ p. p.physical) old.physical
@@ -86,4 +85,4 @@ pub record MarkedRan (reading : Result GapSweep) (old new : GapBuffers) (answer 
 
 -- one run with gaps
 abbrev pub GapRan : Scheme → List ℕ → ℕ → List ℕ → GapBuffers → GapBuffers → SweepAnswer → Type 0
-GapRan scheme file clock body old new answer = MarkedRan (gaps_into scheme file clock body old) old new answer
+GapRan scheme file clock body old new said = MarkedRan (gaps_into scheme file clock body old) old new said

@@ -9,8 +9,7 @@ use Rattle.scale.specs.declared.physical.Scheme.{Scheme}
 use Rattle.symbology.specs.Symbology.{Sweep, symbology}
 use Rattle.symbology.specs.Merge.{merged_of}
 use Rattle.sweep.specs.declared.plan.Head.{Head}
-use Rattle.sweep.specs.Sweep.{head_of, allowed}
-use Rattle.sweep.specs.declared.sweep.SweepAnswer.{SweepAnswer}
+use Rattle.sweep.specs.Sweep.{SweepAnswer, head_of, allowed}
 use Rattle.sweep.specs.GapSweep.{GapSweep, gap_finish, GapBuffers, MarkedRan}
 
 -- what a body's reading with gaps gives after the head and before 36: symbology, 10, 9
@@ -38,4 +37,4 @@ merge_into scheme file clock first second old =
     merge_sweep_of scheme file clock first second (length old.azimuths) (length old.codes) (length old.physical) (length old.marks)
 
 abbrev pub MergeRan : Scheme → List ℕ → ℕ → List ℕ → List ℕ → GapBuffers → GapBuffers → SweepAnswer → Type 0
-MergeRan scheme file clock first second old new answer = MarkedRan (merge_into scheme file clock first second old) old new answer
+MergeRan scheme file clock first second old new said = MarkedRan (merge_into scheme file clock first second old) old new said

@@ -1,12 +1,11 @@
 -- The order of the tests, on small inputs each of which fails several of them: "token, header, fields .., scan time (4, then 6, then 5), scale
 -- fields, symbology, 10, 9, 36". And sweeps that are accepted, whole: one of a row, and clear scans (document 02, M-107).
-use Rattle.std.specs.Prelude.{ℕ, ◌^◌, ◌+◌, List, [], ◌∷◌, ◌++◌, ◌≡◌, replicate, pos}
+use Rattle.std.specs.Prelude.{ℕ, ◌^◌, ◌+◌, List, [], ◌∷◌, ◌++◌, ◌≡◌, replicate, pos, None}
 use Rattle.wire.specs.Float.{f32, f64}
 use Rattle.wire.specs.Refusal.{kind, nat, float, buffer}
 use Rattle.wire.specs.Result.{accepted, refused}
 use Rattle.wire.specs.declared.error.Buffer.TheVariants as Buffer
 use Rattle.scale.specs.declared.physical.Scheme.TheVariants as Scheme
-use Rattle.scale.specs.declared.physical.Declared.TheVariants as Declared
 use Rattle.symbology.specs.Table.{two, one_radial, no_radials, generic, no_list, two_xdr_radials}
 use Rattle.symbology.specs.declared.figures.Packet.{Packet}
 use Rattle.symbology.specs.declared.figures.Packet.TheVariants.{Packet16, PacketAf1f}
@@ -54,7 +53,7 @@ plain_sweep f =
         elevation_tenths = pos 0;
       };
       time = 0;
-      declared = Declared.Absent;
+      declared = None;
       figures = f;
     }
 

@@ -1,6 +1,7 @@
 -- What M-111 asks of merging, beside its definition: b is ordinarily accepted, and b₁ and b₂ come from it by damage to radials of which none
 -- is in both. As in demand 3, all of damage is said in document 01's words.
 use Rattle.std.specs.Prelude.{ℕ, ◌<◌, ◌≤◌, List, [], ◌∷◌, ◌⊎◌, ◌↔◌, ◌≢◌, ◌≡◌}
+use Rattle.std.specs.Prelude as Std
 use Rattle.wire.specs.Refusal.{Refusal, kind, nat, refusal_of}
 use Rattle.wire.specs.Result.{accepted, refused}
 use Rattle.wire.specs.declared.error.Level3DecodeError.{Level3DecodeError}
@@ -9,8 +10,7 @@ use Rattle.symbology.specs.Rows.{row_of}
 use Rattle.symbology.specs.Words.{data_of, ChangedIn, DamageInWords}
 use Rattle.symbology.specs.declared.figures.Figures.{Figures}
 use Rattle.sweep.specs.declared.sweep.Sweep.{Sweep}
-use Rattle.sweep.specs.declared.sweep.SweepAnswer.{SweepAnswer}
-use Rattle.sweep.specs.Sweep.{Accepted, sweep_of, Buffers}
+use Rattle.sweep.specs.Sweep.{Accepted, sweep_of, Buffers, SweepAnswer}
 use Rattle.sweep.specs.InWords.{RowInWords}
 use Rattle.sweep.specs.GapSweep.{GapSweep, gap_sweep_of, GapBuffers}
 use Rattle.sweep.specs.WithGaps.{NoneMarked, SamePicture, SameFront}
@@ -64,12 +64,12 @@ pub record MergedAlike (scheme : Scheme) (file : List ℕ) (clock : ℕ) (na nc 
 -- ---- for two runs of the code, of which the first reads b without gaps and the second merges b₁ and b₂
 
 -- The first run accepted b with s and left `new`; the second answered `answer'`, and left `new'` where `old'` was.
-pub record MergeRuns (b b₁ b₂ : List ℕ) (s : Sweep) (new : Buffers) (old' new' : GapBuffers) (answer' : SweepAnswer) : Type 0 where
+pub record MergeRuns (b b₁ b₂ : List ℕ) (s : Sweep) (new : Buffers) (old' new' : GapBuffers) (said' : SweepAnswer) : Type 0 where
   -- refused exactly when some changed data make a row of other codes
-  pub exactly : ((e : Level3DecodeError) × (answer' ≡ SweepAnswer.Refused e)) ↔ ((r : ℕ) × (r < s.figures.n_radials) × Other s.figures b b₁ b₂ r)
+  pub exactly : ((e : Level3DecodeError) × (said' ≡ Std.Err e)) ↔ ((r : ℕ) × (r < s.figures.n_radials) × Other s.figures b b₁ b₂ r)
   -- with 44, of the lowest such radial; nothing is written
-  pub lowest : (e : Level3DecodeError) → answer' ≡ SweepAnswer.Refused e
+  pub lowest : (e : Level3DecodeError) → said' ≡ Std.Err e
       → (r : ℕ) × LowestOther s.figures b b₁ b₂ r × (refusal_of e ≡ kind 44 (nat r ∷ [])) × (new' ≡ old')
   -- else the picture that the first run left, and no mark
   pub otherwise : ((r : ℕ) → r < s.figures.n_radials → Other s.figures b b₁ b₂ r → ⊥)
-      → (answer' ≡ SweepAnswer.Accepted s) × SameFront s.figures new new' × NoneMarked s.figures new'.marks
+      → (said' ≡ Std.Ok s) × SameFront s.figures new new' × NoneMarked s.figures new'.marks

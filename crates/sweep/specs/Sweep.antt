@@ -1,13 +1,15 @@
 -- Document 01's sweep reading. What stands before symbology sees file, clock and scheme alone; 10, 9 and 36 see the head, the figures and the
 -- buffers' lengths; rows appear only in what is accepted.
-use Rattle.std.specs.Prelude.{ℕ, ◌+◌, ◌*◌, List, [], ◌∷◌, map, Bool, true, false, not, ◌≡◌, ltb, length, Float}
-use Rattle.wire.specs.Refusal.{kind, buffer, refusal_of}
-use Rattle.wire.specs.Result.{Result, accepted, refused, refuse, then, lent}
+use Rattle.std.specs.Prelude.{ℕ, ◌+◌, ◌*◌, List, [], ◌∷◌, map, Bool, true, false, not, ◌≡◌, ltb, length, Option, Some, Float}
+use Rattle.std.specs.Prelude as Std
+use Rattle.wire.specs.Refusal.{kind, buffer}
+use Rattle.wire.specs.Result.{Result, accepted, answer, refuse, then, lent}
 use Rattle.wire.specs.declared.error.Buffer.TheVariants as Buffer
+use Rattle.wire.specs.declared.error.Level3DecodeError.{Level3DecodeError}
 use Rattle.head.specs.Header.{token, message_header, scan_time}
 use Rattle.head.specs.Pdb.{pdb_fields}
 use Rattle.scale.specs.Physical.{scale_fields, declared_scale, physical_of}
-use Rattle.scale.specs.declared.physical.Declared.{Declared}
+use Rattle.scale.specs.declared.scaling.DeclaredLinearScale.{DeclaredLinearScale}
 use Rattle.scale.specs.declared.physical.Scheme.{Scheme}
 use Rattle.scale.specs.declared.physical.Scaling.{Scaling}
 use Rattle.symbology.specs.Answers.{Picture, picture_of}
@@ -15,12 +17,9 @@ use Rattle.symbology.specs.declared.figures.Packet.{Packet}
 use Rattle.symbology.specs.declared.figures.Packet.TheVariants.{Packet16, PacketAf1f, Packet28}
 use Rattle.symbology.specs.declared.figures.Figures.{Figures}
 use Rattle.symbology.specs.declared.figures.Terms.{Terms}
-use Rattle.symbology.specs.declared.figures.Room.TheVariants as Room
 use Rattle.symbology.specs.declared.figures.Packets.{Packets}
 use Rattle.sweep.specs.declared.plan.Head.{Head}
-use Rattle.sweep.specs.declared.plan.HeadRead.{HeadRead}
 use Rattle.sweep.specs.declared.sweep.Sweep.{Sweep}
-use Rattle.sweep.specs.declared.sweep.SweepAnswer.{SweepAnswer}
 
 -- token, header, fields, scan time (4, then 6, then 5), scale fields; the block starts at message header + 18
 unfoldable pub head_of : Scheme → List ℕ → ℕ → Result Head
@@ -54,6 +53,9 @@ room_for na nc np f =
     (refuse (ltb np (f.n_radials * f.n_bins)) (kind 36 (buffer Buffer.Physical ∷ []))
     (accepted tt)))
 
+abbrev pub SweepAnswer : Type 0
+SweepAnswer = Std.Result Sweep Level3DecodeError
+
 -- What acceptance gives, and the picture: centres, codes by row, and their physical values.
 pub record Accepted : Type 0 where
   pub sweep : Sweep
@@ -85,16 +87,8 @@ sweep_of scheme file clock body na nc np =
 abbrev pub sweep_in : Result Accepted → Result Sweep
 sweep_in r = then r λ p. accepted p.sweep
 
-abbrev pub answer_of : SweepAnswer → Result Sweep
-answer_of (SweepAnswer.Accepted s) = accepted s
-answer_of (SweepAnswer.Refused e) = refused (refusal_of e)
-
-abbrev pub head_read_of : HeadRead → Result Head
-head_read_of (HeadRead.Value h) = accepted h
-head_read_of (HeadRead.Refused e) = refused (refusal_of e)
-
 -- what acceptance gives of a head, its declared scale and a picture's figures
-abbrev pub sweep_with : Head → Result Declared → Figures → Result Sweep
+abbrev pub sweep_with : Head → Result (Option DeclaredLinearScale) → Figures → Result Sweep
 sweep_with h d f = then d λ declared. accepted (record { token = h.token; fields = h.fields; time = h.time; declared = declared; figures = f })
 
 -- ---- a run of the code
@@ -113,8 +107,8 @@ abbrev pub read_into : Scheme → List ℕ → ℕ → List ℕ → Buffers → 
 read_into scheme file clock body old = sweep_of scheme file clock body (length old.azimuths) (length old.codes) (length old.physical)
 
 -- One run: the answer, and what the buffers hold before and after.
-pub record Ran (scheme : Scheme) (file : List ℕ) (clock : ℕ) (body : List ℕ) (old new : Buffers) (answer : SweepAnswer) : Type 0 where
-  pub answered : answer_of answer ≡ sweep_in (read_into scheme file clock body old)
+pub record Ran (scheme : Scheme) (file : List ℕ) (clock : ℕ) (body : List ℕ) (old new : Buffers) (said : SweepAnswer) : Type 0 where
+  pub answered : answer said ≡ sweep_in (read_into scheme file clock body old)
   pub azimuths : new.azimuths ≡ lent (read_into scheme file clock body old) (λ p. p.azimuths) old.azimuths
   pub codes : new.codes ≡ lent (read_into scheme file clock body old) (λ p. p.codes) old.codes
   pub physical : new.physical ≡ lent (read_into scheme file clock body old) (λ p. p.physical) old.physical
@@ -129,4 +123,4 @@ packets_for (Scaling.Legacy at post) = Packets.Af1fAlone
 packets_for Scaling.Class = Packets.Any
 
 unfoldable pub terms_for : Scaling → ℕ → Terms
-terms_for scaling np = record { packets = packets_for scaling; physical = Room.Places np }
+terms_for scaling np = record { packets = packets_for scaling; physical = Some np }

@@ -1,6 +1,7 @@
 -- What M-101 asks of the reading with gaps, beside its definition: what damage does to it, when it is the ordinary reading, and which
 -- refusals it keeps. As in demand 3, all of damage is said in document 01's words.
 use Rattle.std.specs.Prelude.{ℕ, ◌+◌, ◌*◌, ◌<◌, List, [], ◌∷◌, map, ◌⊎◌, ◌↔◌, ◌≡◌, length, get_or, take, replicate, Float}
+use Rattle.std.specs.Prelude as Std
 use Rattle.std.specs.Float.{nan}
 use Rattle.wire.specs.Refusal.{Refusal, kind, buffer}
 use Rattle.wire.specs.Result.{accepted, refused}
@@ -13,8 +14,7 @@ use Rattle.symbology.specs.Gaps.{TurnsIntoGap}
 use Rattle.symbology.specs.Rows.{row_of}
 use Rattle.symbology.specs.Words.{data_of, ChangedIn}
 use Rattle.sweep.specs.declared.sweep.Sweep.{Sweep}
-use Rattle.sweep.specs.declared.sweep.SweepAnswer.{SweepAnswer}
-use Rattle.sweep.specs.Sweep.{Accepted, sweep_of, Buffers}
+use Rattle.sweep.specs.Sweep.{Accepted, sweep_of, Buffers, SweepAnswer}
 use Rattle.sweep.specs.GapSweep.{GapSweep, gap_sweep_of, GapBuffers}
 use Rattle.sweep.specs.Demand3.{row_at}
 use Rattle.sweep.specs.InWords.{RowInWords}
@@ -91,8 +91,8 @@ pub record SameRoom (one : Buffers) (other : GapBuffers) : Type 0 where
   pub physical : length other.physical ≡ length one.physical
 
 -- The first run read b, accepted it with s and left `new`; the second read b' with gaps, answered `answer'` and left `new'`.
-pub record GapRuns (scheme : Scheme) (file b b' : List ℕ) (s : Sweep) (new : Buffers) (new' : GapBuffers) (answer' : SweepAnswer) : Type 0 where
-  pub answer : answer' ≡ SweepAnswer.Accepted s
+pub record GapRuns (scheme : Scheme) (file b b' : List ℕ) (s : Sweep) (new : Buffers) (new' : GapBuffers) (said' : SweepAnswer) : Type 0 where
+  pub answer : said' ≡ Std.Ok s
   pub azimuths : take s.figures.n_radials new'.azimuths ≡ take s.figures.n_radials new.azimuths
   pub rows : GapRows scheme file s.figures b b' new.codes new'.codes new.physical new'.physical new'.marks
 
@@ -103,7 +103,7 @@ pub record SameFront (f : Figures) (new : Buffers) (new' : GapBuffers) : Type 0 
   pub physical : take (f.n_radials * f.n_bins) new'.physical ≡ take (f.n_radials * f.n_bins) new.physical
 
 -- The two runs read the same body: the first answered `answer` and left `new`, the second, with gaps, `answer'` and `new'`.
-pub record OrdinaryRuns (answer answer' : SweepAnswer) (new : Buffers) (new' : GapBuffers) : Type 0 where
-  pub exactly : ((s : Sweep) × (answer' ≡ SweepAnswer.Accepted s) × NoneMarked s.figures new'.marks) ↔ ((s : Sweep) × (answer ≡ SweepAnswer.Accepted s))
-  pub equal : (s s' : Sweep) → answer ≡ SweepAnswer.Accepted s → answer' ≡ SweepAnswer.Accepted s' → NoneMarked s'.figures new'.marks
+pub record OrdinaryRuns (said said' : SweepAnswer) (new : Buffers) (new' : GapBuffers) : Type 0 where
+  pub exactly : ((s : Sweep) × (said' ≡ Std.Ok s) × NoneMarked s.figures new'.marks) ↔ ((s : Sweep) × (said ≡ Std.Ok s))
+  pub equal : (s s' : Sweep) → said ≡ Std.Ok s → said' ≡ Std.Ok s' → NoneMarked s'.figures new'.marks
       → (s' ≡ s) × SameFront s.figures new new'

@@ -1,37 +1,25 @@
 // The values of a picture with gaps, once its codes and marks are written.
-ghost use Rattle.std.specs.Prelude.{◌≡◌, ◌*◌, ◌≤◌, length, take, replicate};
-ghost use Rattle.std.specs.Float.{nan};
-ghost use Rattle.wire.specs.Result.{then};
+ghost use Rattle.std.specs.Prelude.{◌≡◌, ◌*◌, ◌≤◌, length, take};
+ghost use Rattle.wire.specs.Result.{answer, then};
 ghost use Rattle.scale.specs.Physical.{declared_scale, fill_of};
-ghost use Rattle.sweep.specs.Sweep.{answer_of, sweep_with};
+ghost use Rattle.sweep.specs.Sweep.{sweep_with};
 ghost use Rattle.sweep.specs.GapSweep.{blanked, blanked_row, blanked_lent};
 
 use crate::plan::Head;
-use crate::sweep::SweepAnswer;
-use scale::physical::{Filled, Scheme};
+use crate::sweep::Sweep;
+use scale::physical::Scheme;
 use symbology::figures::Figures;
-
-// NaN at every place of a row.
-fn blank(row: &mut [f32])
-    ensures { row.new ≡ replicate (length row.old) nan }
-{
-    let v = wire::float::nan32();
-    let mut i: usize = 0;
-    while i < row.len() {
-        row[i] = v;
-        i += 1;
-    }
-}
+use wire::error::Level3DecodeError;
 
 // The mark of a row that is no gap.
 const WHOLE: u8 = 0;
 
-// The same if the row is marked.
+// NaN at every place of a row that is marked.
 fn blank_if(mark: u8, row: &mut [f32])
     ensures { row.new ≡ blanked_row mark row.old }
 {
     if mark != WHOLE {
-        blank(row);
+        row.fill(wire::float::nan32());
     }
 }
 
@@ -41,12 +29,10 @@ fn blank_gaps(marks: &[u8], n_bins: usize, physical: &mut [f32])
     ensures { physical.new ≡ blanked n_bins marks.now physical.old }
 {
     let mut cell: usize = 0;
-    let mut r: usize = 0;
-    while r < marks.len() {
+    for mark in marks {
         let end = cell + n_bins;
-        blank_if(marks[r], &mut physical[cell..end]);
+        blank_if(*mark, &mut physical[cell..end]);
         cell = end;
-        r += 1;
     }
 }
 
@@ -59,10 +45,10 @@ pub fn fill_values(
     codes: &[u16],
     marks: &[u8],
     physical: &mut [f32],
-) -> SweepAnswer
+) -> Result<Sweep, Level3DecodeError>
     requires { (figures.n_radials * figures.n_bins ≤ length codes.now) × (figures.n_radials ≤ length marks.now)
         × (figures.n_radials * figures.n_bins ≤ length physical.old) }
-    ensures result_value { answer_of result ≡ then (fill_of scheme file.now head.block
+    ensures result_value { answer result ≡ then (fill_of scheme file.now head.block
         (take (figures.n_radials * figures.n_bins) codes.now) (length physical.old))
         (λ _. sweep_with head (declared_scale head.scaling) figures) }
     ensures physical_after { physical.new ≡ blanked_lent (fill_of scheme file.now head.block
@@ -70,10 +56,7 @@ pub fn fill_values(
         figures.n_bins (take figures.n_radials marks.now) physical.old }
 {
     let cells = figures.n_radials * figures.n_bins;
-    match scale::physical::fill_physical(scheme, file, head.block, &codes[..cells], physical) {
-        Filled::Refused(e) => return SweepAnswer::Refused(e),
-        Filled::Done => {}
-    }
+    scale::physical::fill_physical(scheme, file, head.block, &codes[..cells], physical)?;
     blank_gaps(&marks[..figures.n_radials], figures.n_bins, physical);
-    crate::sweep::answer_of(head, figures)
+    crate::sweep::accepted(head, figures)
 }

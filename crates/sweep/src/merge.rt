@@ -2,11 +2,10 @@
 ghost use Rattle.sweep.specs.GapSweep.{gap_buffers};
 ghost use Rattle.sweep.specs.MergeSweep.{MergeRan};
 
-use crate::plan::HeadRead;
-use crate::sweep::SweepAnswer;
+use crate::sweep::Sweep;
 use scale::physical::Scheme;
-use symbology::figures::FiguresRead;
 use symbology::symbology::merge_pictures;
+use wire::error::Level3DecodeError;
 
 // The sweep of a file and two receptions of its unpacked body, each read with gaps. A row is the first's if whole there, else the second's if
 // whole, else a gap. Acceptance leaves the picture and the marks as the reading with gaps does. A refusal writes nothing.
@@ -20,20 +19,13 @@ pub fn merge_receptions(
     codes: &mut [u16],
     physical: &mut [f32],
     marks: &mut [u8],
-) -> SweepAnswer
+) -> Result<Sweep, Level3DecodeError>
     ensures { MergeRan scheme file.now clock first.now second.now
         (gap_buffers azimuths.old codes.old physical.old marks.old)
         (gap_buffers azimuths.new codes.new physical.new marks.new) result }
 {
-    let head = match crate::plan::read_head(scheme, file, clock) {
-        HeadRead::Value(h) => h,
-        HeadRead::Refused(e) => return SweepAnswer::Refused(e),
-    };
-    let scaling = head.scaling;
-    let terms = crate::plan::terms_for(scaling, physical.len());
-    let figures = match merge_pictures(first, second, terms, azimuths, codes, marks) {
-        FiguresRead::Value(f) => f,
-        FiguresRead::Refused(e) => return SweepAnswer::Refused(e),
-    };
+    let head = crate::plan::read_head(scheme, file, clock)?;
+    let terms = crate::plan::terms_for(head.scaling, physical.len());
+    let figures = merge_pictures(first, second, terms, azimuths, codes, marks)?;
     crate::gap_values::fill_values(file, scheme, head, figures, codes, marks, physical)
 }

@@ -2,10 +2,9 @@
 // covers the mark buffer, after the physical one.
 ghost use Rattle.sweep.specs.GapSweep.{gap_buffers, GapRan};
 
-use crate::plan::HeadRead;
-use crate::sweep::SweepAnswer;
+use crate::sweep::Sweep;
 use scale::physical::Scheme;
-use symbology::figures::FiguresRead;
+use wire::error::Level3DecodeError;
 
 // The sweep of a file and its unpacked body, with gaps. Acceptance leaves the picture in the front of the buffers, and a mark for each
 // radial: 1 where its data make no row, which then has codes 0 and values NaN; else 0. A refusal writes nothing.
@@ -18,22 +17,13 @@ pub fn read_sweep_with_gaps(
     codes: &mut [u16],
     physical: &mut [f32],
     marks: &mut [u8],
-) -> SweepAnswer
+) -> Result<Sweep, Level3DecodeError>
     ensures { GapRan scheme file.now clock body.now
         (gap_buffers azimuths.old codes.old physical.old marks.old)
         (gap_buffers azimuths.new codes.new physical.new marks.new) result }
 {
-    let head = match crate::plan::read_head(scheme, file, clock) {
-        HeadRead::Value(h) => h,
-        HeadRead::Refused(e) => return SweepAnswer::Refused(e),
-    };
-    let scaling = head.scaling;
-    let terms = crate::plan::terms_for(scaling, physical.len());
-    let figures = match symbology::symbology::decode_with_gaps(
-        body, terms, azimuths, codes, marks,
-    ) {
-        FiguresRead::Value(f) => f,
-        FiguresRead::Refused(e) => return SweepAnswer::Refused(e),
-    };
+    let head = crate::plan::read_head(scheme, file, clock)?;
+    let terms = crate::plan::terms_for(head.scaling, physical.len());
+    let figures = symbology::symbology::decode_with_gaps(body, terms, azimuths, codes, marks)?;
     crate::gap_values::fill_values(file, scheme, head, figures, codes, marks, physical)
 }

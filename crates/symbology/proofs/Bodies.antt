@@ -1,4 +1,4 @@
--- The body: its header and its packets, a law for each answer of the code. Assumes nothing.
+-- The body: its header and its packets, a law for each figures_of of the code. Assumes nothing.
 use Rattle.std.proofs.Common.{◌≡◌, ℕ, zero, suc, ◌+◌, ◌-◌, ◌*◌, ◌<◌, ◌≤◌, Bool, true, false, cond, not, ◌&&◌, ◌||◌, eqb, ltb, List, [], ◌∷◌, length, get_or, take, drop, ℤ, pos, sym, refl, ap, ◌∙◌, ap₂, arith, w8, Fits, ltb-false, ltb-true, le-ltb, lt-ltb, ne_eqb}
 use mathlib.Core.Path.{fun_ext}
 use lib.Seq.{slice, take-length}
@@ -13,12 +13,13 @@ use Rattle.wire.proofs.Runs.{then_then, Plain, plain_then, plain_by, plain_give,
 use Rattle.symbology.proofs.Modes.{mode_stop, mode_passed, mode_halted, mode_checks}
 use Rattle.xdr.specs.Xdr.{at_least0}
 use Rattle.symbology.specs.Symbology.{Sweep, Header, frame, radial, radial_walk, first_bin, over_body, counts, packet_header, radial_packet, payload, body_short, generic_packet, packet_of, with_code, block_header, symbology}
-use Rattle.symbology.specs.Walk.{in_mode, beam_span, any_frame, any_radial, any_walk, first_of, sweep_from, Planned, Plotted, Plots, in_part, Plans}
+use Rattle.symbology.specs.Walk.{in_mode, beam_span, any_frame, any_radial, any_walk, first_of, sweep_from, Planned, Plotted, Plots}
 use Rattle.symbology.proofs.Beams.{header_is}
 use Rattle.symbology.proofs.Levels.{signed_low, signed_high, u32_small}
 use Rattle.symbology.proofs.XdrRadials.{sweep_run}
 use Rattle.symbology.specs.declared.figures.Figures.{Figures}
-use Rattle.symbology.specs.declared.spans.PlanRead.{PlanRead}
+use Rattle.std.specs.Prelude as Std
+use Rattle.wire.specs.declared.error.Level3DecodeError.{Level3DecodeError}
 use Rattle.symbology.specs.declared.figures.Packet.{Packet}
 use Rattle.symbology.specs.declared.figures.Packet.TheVariants.{Packet16, PacketAf1f, Packet28}
 use Rattle.symbology.specs.declared.figures.Geometry.TheVariants.{RangeScale}
@@ -26,7 +27,7 @@ use Rattle.symbology.specs.declared.spans.BodyPlan.{BodyPlan}
 
 -- ---- plans
 
-pub plots_as : (m : Bool) (r : BodyPlan) (s : List ℕ) {R Q : Result (Given Sweep)} → R ≡ Q → Plots m r s Q → Plots m r s R
+pub plots_as : (m : Bool) (r : Std.Result BodyPlan Level3DecodeError) (s : List ℕ) {R Q : Result (Given Sweep)} → R ≡ Q → Plots m r s Q → Plots m r s R
 plots_as m r s e h = rw e h
 
 -- a plan of a part of the body
@@ -119,19 +120,13 @@ module _ (packet : Packet) (s : List ℕ) (old : packet ≡ Packet28 → ⊥) wh
         ∙ sweep_run (Unit {0}) m (figures_of packet h) (any_walk packet h.radials h.bins h.radials 0) s 30
 
     -- the part that holds the radials is the whole body
-    radial_plotted : {m : Bool} {f : Figures} {at next : ℕ}
+    pub radial_plotted : {m : Bool} {f : Figures} {at next : ℕ}
         → Planned m f at next s (sweep_from (figures_of packet h) (run (in_mode m (any_walk packet h.radials h.bins h.radials 0)) s 30))
         → Plotted m f 0 (length s) at s (run (in_mode m (radial_packet packet)) s 18)
     radial_plotted {m} {f} {at} {next} p =
         let q : Planned m f at next (slice 0 (length s) s) (sweep_from (figures_of packet h) (run (in_mode m (any_walk packet h.radials h.bins h.radials 0)) s 30)) =
         rw (take-length s) p in
         plotted q q.radials.next (omega arith) (omega arith) (radial_run m ∙ q.whole)
-
-    pub radial_plots : (m : Bool) (r : PlanRead) → Plans m r s (sweep_from (figures_of packet h) (run (in_mode m (any_walk packet h.radials h.bins h.radials 0)) s 30))
-        → Plots m (in_part 0 (length s) r) s (run (in_mode m (radial_packet packet)) s 18)
-    unfolding Plans Plots
-    radial_plots m (PlanRead.Value f at next) k = radial_plotted k
-    radial_plots m (PlanRead.Refused e) k = k ∙ sym (radial_run m)
 
 -- ---- packet 28
 
@@ -192,22 +187,16 @@ module _ (s : List ℕ) where
         part_is : take (24 + need - 24) (drop 24 s) ≡ slice 24 (24 + need) s
         part_is = part_slice s 24 (24 + need) (omega arith)
 
-        generic_refused : (m : Bool) {x : Refusal} → refused x ≡ run (in_mode m payload) (take (24 + need - 24) (drop 24 s)) 0 → refused x ≡ run (in_mode m generic_packet) s 18
+        pub generic_refused : (m : Bool) {x : Refusal} → refused x ≡ run (in_mode m payload) (take (24 + need - 24) (drop 24 s)) 0 → refused x ≡ run (in_mode m generic_packet) s 18
         unfolding shifted
         generic_refused m h = ap (shifted 24) (h ∙ ap (λ l. run (in_mode m payload) l 0) part_is) ∙ sym (generic_run m)
 
-        generic_plotted : (m : Bool) {f : Figures} {at next : ℕ} → Planned m f at next (take (24 + need - 24) (drop 24 s)) (run (in_mode m payload) (take (24 + need - 24) (drop 24 s)) 0)
+        pub generic_plotted : (m : Bool) {f : Figures} {at next : ℕ} → Planned m f at next (take (24 + need - 24) (drop 24 s)) (run (in_mode m payload) (take (24 + need - 24) (drop 24 s)) 0)
             → Plotted m f 24 (24 + need) at s (run (in_mode m generic_packet) s 18)
         unfolding shifted
         generic_plotted m {f} {at} {next} p =
             let q : Planned m f at next (slice 24 (24 + need) s) (run (in_mode m payload) (slice 24 (24 + need) s) 0) = rw part_is at p in
             plotted q (24 + q.radials.next) (omega arith) generic_inside (generic_run m ∙ ap (shifted 24) q.whole)
-
-        pub generic_plots : (m : Bool) (r : PlanRead) → Plans m r (take (24 + need - 24) (drop 24 s)) (run (in_mode m payload) (take (24 + need - 24) (drop 24 s)) 0)
-            → Plots m (in_part 24 (24 + need) r) s (run (in_mode m generic_packet) s 18)
-        unfolding Plans Plots
-        generic_plots m (PlanRead.Value f at next) k = generic_plotted m k
-        generic_plots m (PlanRead.Refused e) k = generic_refused m k
 
 -- ---- the body
 

@@ -1,97 +1,45 @@
--- Cursors in the cells of runs. Assumes nothing.
-use Rattle.std.proofs.Common.{◌≡◌, ℕ, zero, suc, ◌+◌, ◌-◌, ◌/◌, ◌%◌, ◌<◌, ◌≤◌, true, false, ◌&&◌, eqb, List, [], ◌∷◌, length, get_or, take, drop, sym, refl, ◌∙◌, not-suc-le-zero, arith, drop_of_length-le, eq-eqb, ne_eqb}
+-- `eq` of two iterators over numbers says whether their lists are the same. Assumes nothing.
+use Rattle.std.proofs.Common.{◌≡◌, ℕ, Bool, true, false, ◌&&◌, eqb, List, [], ◌∷◌, Option, None, Some, sym, ap, ap₂, subst, ◌∙◌}
+use Rattle.std.proofs.lemmas.Iterator.{YieldsList}
+use Rattle.std.specs.Iterator.{AlwaysYields, YieldsThen, ComparesItemsByEq}
+use Rattle.std.specs.List.{AllZip}
+use Rattle.std.specs.Option.{MatchOption, IfSome}
 use Rattle.wire.specs.Text.{same}
-use Rattle.symbology.specs.Rows.{cells}
-use Rattle.symbology.proofs.RunLoops.{left_cons}
-use Rattle.symbology.specs.Cursors.{ahead}
 
--- ---- the search for a run that has cells
+module _ {S T : Type 0} (steps : S → Option ℕ → S → Type 0) (others : T → Option ℕ → T → Type 0) (r : Bool) where
+  abbrev Yields : {U : Type 0} → (U → Option ℕ → U → Type 0) → U → List ℕ → Type 0
+  Yields next s xs = AlwaysYields next (λ (x : ℕ). x) s xs
 
-module _ (s : List ℕ) (at left colour : ℕ) where
-  pub record Runs (i l c : ℕ) : Type 0 where
-    pub known : ahead s i l c ≡ ahead s at left colour
+  abbrev Last : Option ℕ → Option ℕ → Type 0
+  Last o p = MatchOption o (MatchOption p (r ≡ true) (λ _. r ≡ false)) (λ x. (r ≡ false) × IfSome p (λ y. eqb x y ≡ false))
 
-  pub runs_first : Runs at left colour
-  runs_first = record { known = refl }
+  last : (o p : Option ℕ) (xs ys : List ℕ) (s u : S) (t w : T) → Yields steps s xs → Yields others t ys → steps s o u → others t p w → Last o p → r ≡ same xs ys
+  last None p (x ∷ xs) ys s u t w e f a b h = absurd (e.0 u a)
+  last (Some x) p [] ys s u t w e f a b h = absurd (e x u a)
+  last None None [] (y ∷ ys) s u t w e f a b h = absurd (f.0 w b)
+  last None None [] [] s u t w e f a b h = h
+  last None (Some y) [] [] s u t w e f a b h = absurd (f y w b)
+  last None (Some y) [] (z ∷ ys) s u t w e f a b h = h
+  last (Some x) None (z ∷ xs) (y ∷ ys) s u t w e f a b h = absurd (f.0 w b)
+  last (Some x) None (z ∷ xs) [] s u t w e f a b h = h.0
+  last (Some x) (Some y) (z ∷ xs) [] s u t w e f a b h = absurd (f y w b)
+  last (Some x) (Some y) (x' ∷ xs) (y' ∷ ys) s u t w e f a b h =
+      h.0 ∙ ap (λ (c : Bool). c && same xs ys) (sym h.1 ∙ ap₂ eqb (e.1 x u a).0 (f.1 y w b).0)
 
-module _ {s : List ℕ} {at left colour i l c : ℕ} (inv : Runs s at left colour i l c) where
-  pub runs_turn : {x : ℕ} → l ≡ 0 → i < length s → x ≡ get_or s i 0 → Runs s at left colour (i + 1) (x / 16) (x % 16)
-  unfolding ahead cells
-  runs_turn {x} z lt is =
-      let k : cells (drop i s) ≡ ahead s at left colour = rw z at inv.known in
-      record { known = rw (left_cons s i lt, ← is) at k }
+  along : (cs bs : List ℕ) (o p : Option ℕ) (xs ys : List ℕ) (s u : S) (t w : T) → Yields steps s xs → Yields others t ys
+      → YieldsThen steps s cs o u → YieldsThen others t bs p w → AllZip (λ x y. eqb x y ≡ true) cs bs → Last o p → r ≡ same xs ys
+  along [] [] o p xs ys s u t w e f a b z h = last o p xs ys s u t w e f (subst (λ j. steps j o u) (sym a.1) a.2) (subst (λ j. others j p w) (sym b.1) b.2) h
+  along [] (y ∷ bs) o p xs ys s u t w e f a b z h = absurd z
+  along (x ∷ cs) [] o p xs ys s u t w e f a b z h = absurd z
+  along (x ∷ cs) (y ∷ bs) o p [] ys s u t w e f a b z h = absurd (e x a.1.0 a.1.1)
+  along (x ∷ cs) (y ∷ bs) o p (x' ∷ xs) [] s u t w e f a b z h = absurd (f y b.1.0 b.1.1)
+  along (x ∷ cs) (y ∷ bs) o p (x' ∷ xs) (y' ∷ ys) s u t w e f a b z h =
+      let m = e.1 x a.1.0 a.1.1 in
+      let n = f.1 y b.1.0 b.1.1 in
+      along cs bs o p xs ys a.1.0 u b.1.0 w m.1 n.1 (a.0, a.1.2, a.2) (b.0, b.1.2, b.2) z.1 h
+      ∙ ap (λ (c : Bool). c && same xs ys) (sym z.0 ∙ ap₂ eqb m.0 n.0)
 
-  -- none are left
-  pub runs_none : l ≡ 0 → length s ≤ i → (ahead s i 0 c ≡ ahead s at left colour) × (◌≡◌ {A = ℕ} 0 0 → ahead s at left colour ≡ [])
-  unfolding ahead cells
-  runs_none z h =
-      let k : cells (drop i s) ≡ ahead s at left colour = rw z at inv.known in
-      (k, λ _. sym k ∙ rw (drop_of_length-le s h) refl)
-
-  pub runs_some : (l ≡ 0 → ⊥) → (ahead s i l c ≡ ahead s at left colour) × (l ≡ 0 → ahead s at left colour ≡ [])
-  runs_some h = (inv.known, λ z. absurd (h z))
-
--- ---- the comparison
-
-first_cell : (s : List ℕ) (at l c : ℕ) → (l ≡ 0 → ⊥) → ahead s at l c ≡ c ∷ ahead s at (l - 1) c
-unfolding ahead
-first_cell s at zero c h = absurd (h refl)
-first_cell s at (suc l) c h = let z : suc l - 1 ≡ l = omega arith in rw z refl
-
-take_none : (n : ℕ) → ◌≡◌ {A = List ℕ} (take n []) []
-take_none zero = refl
-take_none (suc n) = refl
-
-take_first : (n c : ℕ) (l : List ℕ) → 0 < n → take n (c ∷ l) ≡ c ∷ take (n - 1) l
-take_first zero c l h = absurd (not-suc-le-zero h)
-take_first (suc n) c l h = let z : suc n - 1 ≡ n = omega arith in rw z refl
-
-module _ (a b : List ℕ) (n : ℕ) where
-  pub record Compared (left ia la ca ib lb cb : ℕ) : Type 0 where
-    pub known : same (take left (ahead a ia la ca)) (take left (ahead b ib lb cb)) ≡ same (take n (cells a)) (take n (cells b))
-
-  pub compared_first : Compared n 0 0 0 0 0 0
-  unfolding ahead
-  compared_first = record { known = refl }
-
-module _ {a b : List ℕ} {n left ia la ca ib lb cb : ℕ} (inv : Compared a b n left ia la ca ib lb cb) where
-  pub compared_end : left ≤ 0 → true ≡ same (take n (cells a)) (take n (cells b))
-  unfolding same
-  compared_end h = let z : left ≡ 0 = omega arith in rw z at inv.known
-
-  module _ (some : 0 < left) (xi xl xc yi yl yc : ℕ) (x : ahead a xi xl xc ≡ ahead a ia la ca) (x0 : xl ≡ 0 → ahead a ia la ca ≡ [])
-      (y : ahead b yi yl yc ≡ ahead b ib lb cb) (y0 : yl ≡ 0 → ahead b ib lb cb ≡ []) where
-    -- the second's next cell
-    y_first : (yl ≡ 0 → ⊥) → take left (ahead b ib lb cb) ≡ yc ∷ take (left - 1) (ahead b yi (yl - 1) yc)
-    y_first h = rw (← y, first_cell b yi yl yc h) (take_first left yc _ some)
-
-    x_first : (xl ≡ 0 → ⊥) → take left (ahead a ia la ca) ≡ xc ∷ take (left - 1) (ahead a xi (xl - 1) xc)
-    x_first h = rw (← x, first_cell a xi xl xc h) (take_first left xc _ some)
-
-    pub compared_over : xl ≡ 0 → eqb yl 0 ≡ same (take n (cells a)) (take n (cells b))
-    unfolding same
-    compared_over z = by yl refl
-      where
-        k : same [] (take left (ahead b ib lb cb)) ≡ same (take n (cells a)) (take n (cells b))
-        k = rw (x0 z, take_none left) at inv.known
-
-        by : (m : ℕ) → yl ≡ m → eqb m 0 ≡ same (take n (cells a)) (take n (cells b))
-        by zero e = rw (y0 e, take_none left) at k
-        by (suc m) e =
-            let w : suc m ≡ 0 → ⊥ = λ q. omega arith in
-            rw (ne_eqb (suc m) 0 w) (rw (y_first (λ q. w (sym e ∙ q))) at k)
-
-    pub compared_short : (xl ≡ 0 → ⊥) → yl ≡ 0 → false ≡ same (take n (cells a)) (take n (cells b))
-    unfolding same
-    compared_short h z = rw (x_first h, y0 z, take_none left) at inv.known
-
-    module _ (h : xl ≡ 0 → ⊥) (h' : yl ≡ 0 → ⊥) where
-      both_first : eqb xc yc && same (take (left - 1) (ahead a xi (xl - 1) xc)) (take (left - 1) (ahead b yi (yl - 1) yc)) ≡ same (take n (cells a)) (take n (cells b))
-      unfolding same
-      both_first = rw (x_first h, y_first h') at inv.known
-
-      pub compared_not : (xc ≡ yc → ⊥) → false ≡ same (take n (cells a)) (take n (cells b))
-      compared_not e = simp (ne_eqb xc yc e) at both_first
-
-      pub compared_turn : xc ≡ yc → Compared a b n (left - 1) xi (xl - 1) xc yi (yl - 1) yc
-      compared_turn e = record { known = simp (eq-eqb xc yc e) at both_first }
+pub eq_of_lists : {S U T : Type 0} {steps : S → Option ℕ → S → Type 0} {others : T → Option ℕ → T → Type 0} {s : S} {xs ys : List ℕ} (becomes : U → T → Type 0) (other : U) (r : Bool)
+    → ComparesItemsByEq steps becomes others s other eqb r → YieldsList steps (λ x. x) s xs → ((it : T) → becomes other it → YieldsList others (λ x. x) it ys) → r ≡ same xs ys
+eq_of_lists {steps = steps} {others = others} {s = s} {xs = xs} {ys = ys} becomes other r d e f =
+    along steps others r d.1 d.2 d.3 d.4 xs ys s d.5 d.0 d.6 e.runs (f d.0 d.7).runs d.8 d.9 d.10 d.11

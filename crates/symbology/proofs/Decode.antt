@@ -3,20 +3,19 @@ use Rattle.std.proofs.Common.{◌≡◌, ℕ, ◌-◌, ◌*◌, ◌≤◌, Bool,
 use lib.Signed.{lt_z}
 use lib.Ieee.{Float}
 use Rattle.wire.specs.Refusal.{Refusal, kind, refusal_of}
-use Rattle.wire.specs.Result.{Result, accepted, refused, refuse, then, lent}
+use Rattle.wire.specs.Result.{Result, accepted, answer, refused, refuse, then, lent}
 use Rattle.wire.specs.Reading.{run, Given}
 use Rattle.wire.proofs.Readings.{part_slice}
 use Rattle.xdr.specs.Xdr.{at_least0}
 use Rattle.wire.specs.declared.error.Level3DecodeError.{Level3DecodeError}
 use Rattle.symbology.specs.Symbology.{Sweep, body_short, symbology}
-use Rattle.symbology.specs.Answers.{step_of, Picture, joined, picture_of, asked, room_in, admit, passing, decode_for, figures_in, figures_of, Decodes}
+use Rattle.symbology.specs.Answers.{step_of, Picture, joined, picture_of, asked, room_in, admit, passing, decode_for, figures_in, Decodes}
 use Rattle.symbology.specs.Merge.{usable}
-use Rattle.symbology.specs.Walk.{in_mode, any_walk, Plotted, Plots, on_terms, planned}
+use Rattle.symbology.specs.Walk.{in_mode, any_walk, Plotted, on_terms}
 use Rattle.symbology.specs.declared.figures.Figures.{Figures}
 use Rattle.symbology.specs.declared.figures.Terms.{Terms}
-use Rattle.symbology.specs.declared.figures.FiguresRead.{FiguresRead}
+use Rattle.std.specs.Prelude as Std
 use Rattle.wire.proofs.Results.{one_value, through, passed}
-use Rattle.symbology.specs.declared.spans.BodyPlan.{BodyPlan}
 
 -- ---- 23, of a length that the code holds as y
 
@@ -29,25 +28,12 @@ module _ {y z : ℤ} (e : y ≡ z) (room : ℕ) where
   unfolding body_short
   short_over h k = rw (k, ← e) (simp h)
 
--- ---- a plan, once the code has matched it
-
-module _ (m : Bool) (body : List ℕ) (R : Result (Given Sweep)) {r : BodyPlan} (plots : Plots m r body R) where
-  pub plan_refused : {e : Level3DecodeError} → r ≡ BodyPlan.Refused e → refused (refusal_of e) ≡ R
-  unfolding Plots
-  plan_refused h = subst (λ x. Plots m x body R) h plots
-
-  pub plan_value : {f : Figures} {from to at : ℕ} → r ≡ BodyPlan.Value f from to at → Plotted m f from to at body R
-  unfolding Plots
-  plan_value h = subst (λ x. Plots m x body R) h plots
-
 -- the figures of what was read
-abbrev figures_read : Result (Given Sweep) → Result Figures
+abbrev pub figures_read : Result (Given Sweep) → Result Figures
 figures_read R = then R λ g. accepted g.value.figures
 
-pub plan_figures : (m : Bool) (body : List ℕ) (R : Result (Given Sweep)) (r : BodyPlan) {q : FiguresRead} → Plots m r body R → q ≡ planned r → figures_of q ≡ figures_read R
-unfolding Plots
-plan_figures m body R (BodyPlan.Value f from to at) p e = ap figures_of e ∙ sym (ap figures_read p.whole)
-plan_figures m body R (BodyPlan.Refused x) p e = ap figures_of e ∙ ap figures_read p
+pub plan_figures : {m : Bool} {body : List ℕ} {R : Result (Given Sweep)} {f : Figures} {from to at : ℕ} → Plotted m f from to at body R → accepted f ≡ figures_read R
+plan_figures p = sym (ap figures_read p.whole)
 
 -- ---- the terms
 
@@ -65,17 +51,22 @@ pub refuse_then : {A B : Type 0} (b : Bool) (x : Refusal) (r : Result A) (k : A 
 refuse_then true x r k = refl
 refuse_then false x r k = refl
 
--- the other way, by the answers of the tests
-pub admit_is : (t : Terms) (na nc : ℕ) (f : Figures) {r c d x y : Result (Unit {0})} → r ≡ refuse (not (asked t.packets f.packet)) (kind 10 []) (accepted tt)
-    → c ≡ step_of t.packets → d ≡ room_in t na nc f.n_radials (f.n_radials * f.n_bins)
-    → y ≡ then c (λ _. d) → x ≡ then r (λ _. y) → x ≡ admit t na nc f
-unfolding admit
-admit_is t na nc f i j k m n = rw (n, m, i, j, k) (sym (refuse_then (not (asked t.packets f.packet)) (kind 10 []) (accepted tt) _))
+-- the tests one after the other, by their answers
+abbrev fine : Result (Unit {0})
+fine = accepted tt
 
-pub use_is : (t : Terms) (f : Figures) {r c x : Result (Unit {0})} → r ≡ refuse (not (asked t.packets f.packet)) (kind 10 []) (accepted tt)
-    → c ≡ step_of t.packets → x ≡ then r (λ _. c) → x ≡ usable t f
+pub use_is : (t : Terms) (f : Figures) → then (refuse (not (asked t.packets f.packet)) (kind 10 []) fine) (λ _. step_of t.packets) ≡ usable t f
 unfolding usable
-use_is t f i j n = rw (n, i, j) (sym (refuse_then (not (asked t.packets f.packet)) (kind 10 []) (accepted tt) _))
+use_is t f = sym (refuse_then (not (asked t.packets f.packet)) (kind 10 []) fine (λ _. step_of t.packets))
+
+pub admit_is : (t : Terms) (na nc : ℕ) (f : Figures) → then (usable t f) (λ _. room_in t na nc f.n_radials (f.n_radials * f.n_bins)) ≡ admit t na nc f
+unfolding admit usable
+admit_is t na nc f = sym (by (not (asked t.packets f.packet)) (step_of t.packets))
+  where
+    by : (b : Bool) (c : Result (Unit {0})) → refuse b (kind 10 []) (then c λ _. room_in t na nc f.n_radials (f.n_radials * f.n_bins))
+        ≡ then (refuse b (kind 10 []) c) λ _. room_in t na nc f.n_radials (f.n_radials * f.n_bins)
+    by true c = refl
+    by false c = refl
 
 -- ---- a plan whose figures are tested
 
@@ -153,7 +144,7 @@ pub radials_there : (m : Bool) (body : List ℕ) {f : Figures} {from to at : ℕ
 radials_there m body {f} {from} {to} {at} p = rw (part_slice body from to p.ordered) p.radials_are
 
 -- the figures, and the buffers that held az and cs
-answered : {e : ℕ → ℕ → Result Picture} {d : Result Picture} (az : List Float) (cs : List ℕ) {r : FiguresRead} → d ≡ e (length az) (length cs) → figures_of r ≡ figures_in d
+answered : {e : ℕ → ℕ → Result Picture} {d : Result Picture} (az : List Float) (cs : List ℕ) {r : Std.Result Figures Level3DecodeError} → d ≡ e (length az) (length cs) → answer r ≡ figures_in d
     → {az' : List Float} {cs' : List ℕ} → az' ≡ lent d (λ p. p.azimuths) az → cs' ≡ lent d (λ p. p.codes) cs → Decodes e az az' cs cs' r
 answered az cs e i a c =
     record {
@@ -163,21 +154,21 @@ answered az cs e i a c =
     }
 
 module _ (t : Terms) (body : List ℕ) (az : List Float) (cs : List ℕ) where
-  abbrev Decoded : List Float → List ℕ → FiguresRead → Type 0
+  abbrev Decoded : List Float → List ℕ → Std.Result Figures Level3DecodeError → Type 0
   Decoded az' cs' = Decodes (decode_for t body) az az' cs cs'
 
   -- the body's reading on the terms, with these buffers
   abbrev R : Result (Given Sweep)
   R = on_terms t (length az) (length cs) (run (in_mode false symbology) body 0)
 
-  pub decode_refused : {x : Level3DecodeError} → refused (refusal_of x) ≡ R → Decoded az cs (FiguresRead.Refused x)
+  pub decode_refused : {x : Level3DecodeError} → refused (refusal_of x) ≡ R → Decoded az cs (Std.Err x)
   decode_refused {x} h =
       let d : refused (refusal_of x) ≡ decode_for t body (length az) (length cs) = rw (decode_by t body (length az) (length cs), ← h) refl in
       answered az cs d refl refl refl
 
   pub decode_is : {f : Figures} {from to at : ℕ} (p : Plotted false f from to at body R) {az' : List Float} {cs' : List ℕ}
       → az' ≡ lent (radials_in false body f from to at) (λ g. g.value) az → cs' ≡ lent (radials_in false body f from to at) (λ g. joined g.rows) cs
-      → Decoded az' cs' (FiguresRead.Value f)
+      → Decoded az' cs' (Std.Ok f)
   decode_is {f} p a c =
       let d : accepted (drawn f p.radials) ≡ decode_for t body (length az) (length cs) = rw (decode_by t body (length az) (length cs), p.whole) refl in
       let e = radials_there false body p in

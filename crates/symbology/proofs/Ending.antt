@@ -10,7 +10,6 @@ use Rattle.symbology.specs.Trailing.{ending, trailing}
 
 -- the same bytes are the same list
 same_is : (a b : List ℕ) → same a b ≡ true → a ≡ b
-unfolding same
 same_is [] [] h = refl
 same_is [] (y ∷ b) h = absurd (false≢true h)
 same_is (x ∷ a) [] h = absurd (false≢true h)

@@ -17,7 +17,7 @@ first_bad radial gate vs =
     kind 34 (nat radial ∷ nat (gate + leading is_level vs) ∷ whole (signed 2147483648 (get_or vs (leading is_level vs) 0)) ∷ [])
 
 pub levels_are : (radial gate : ℕ) (vs : List ℕ) → levels radial gate vs ≡ refuse (not (all is_level vs)) (first_bad radial gate vs) (accepted vs)
-unfolding levels push all leading
+unfolding levels push leading
 levels_are radial gate [] = refl
 levels_are radial gate (v ∷ vs) = go (is_level v) refl (levels_are radial (suc gate) vs)
   where

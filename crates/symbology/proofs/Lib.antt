@@ -4,7 +4,6 @@ pub mod FullRow
 pub mod Runs
 pub mod Levels
 pub mod Widths
-pub mod Stores
 pub mod RunLoops
 pub mod Paint
 pub mod LowFirst

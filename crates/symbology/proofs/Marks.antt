@@ -15,7 +15,9 @@ use Rattle.xdr.specs.Xdr as Xdr
 use Rattle.xdr.specs.Xdr.{short, pass, uint, int, padding, string_body, string, array_count, pointer, at_least0, list_head, further, elements, counted, parameter}
 use Rattle.symbology.specs.Places.{Label, string_body_label, string_padding, product_number, list_count, list_pointer, array_count_label, array_body, mark, Items, string_items, further_items, element_items, list_items, parameter_items, numbers, product_items, radial_items, radials_items, component_items}
 use Rattle.symbology.specs.Rows.{row_of}
-use Rattle.symbology.specs.Symbology.{Sweep, product_block, XdrRadial, xdr_frame, xdr_radial, xdr_walk, xdr_radials, Gates28, component_head, component, only, payload, generic_packet}
+use Rattle.symbology.specs.declared.generic.XdrRadial.{XdrRadial}
+use Rattle.symbology.specs.declared.generic.Gates28.{Gates28}
+use Rattle.symbology.specs.Symbology.{Sweep, product_block, xdr_frame, xdr_radial, xdr_walk, xdr_radials, component_head, component, only, payload, generic_packet}
 use Rattle.symbology.specs.declared.figures.Packet.TheVariants.{Packet28}
 use Rattle.symbology.proofs.Containment.{value_same}
 use Rattle.symbology.proofs.Path.{Post, Ends, then, tested, weaken, after, table}

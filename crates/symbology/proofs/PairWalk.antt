@@ -1,5 +1,5 @@
 -- Two walks over the radials side by side: one radial of each, and the invariant of the comparison. Assumes nothing.
-use Rattle.std.proofs.Common.{◌≡◌, ℕ, zero, suc, ◌+◌, ◌-◌, ◌<◌, ◌≤◌, Bool, true, false, cond, not, ◌&&◌, eqb, List, [], ◌∷◌, length, take, drop, sym, refl, ap, ◌∙◌, add-one, arith, eq-eqb, ne_eqb}
+use Rattle.std.proofs.Common.{Option, Some, None, ◌≡◌, ℕ, zero, suc, ◌+◌, ◌-◌, ◌<◌, ◌≤◌, Bool, true, false, cond, not, ◌&&◌, eqb, List, [], ◌∷◌, length, take, drop, sym, refl, ap, ◌∙◌, add-one, arith, eq-eqb, ne_eqb}
 use lib.Ieee.{Float}
 use borrow.Author.Tests.{not-true, not-false}
 use Rattle.wire.specs.Refusal.{Refusal, kind, nat}
@@ -13,7 +13,8 @@ use Rattle.symbology.specs.Places.{Enough}
 use Rattle.symbology.specs.Walk.{in_mode, kept_of, any_radial, any_walk, Accepted, row_in}
 use Rattle.wire.specs.SameFloat.{same_float}
 use Rattle.symbology.specs.Merge.{same_floats, disagree, agreed, either}
-use Rattle.symbology.specs.Pairs.{Side, turned, note_of, judged, next_in}
+use Rattle.symbology.specs.declared.pairs.Side.{Side}
+use Rattle.symbology.specs.Pairs.{turned, note_of, judged, next_in}
 use Rattle.symbology.specs.declared.figures.Packet.{Packet}
 use Rattle.symbology.proofs.FullRow.{full_row}
 use Rattle.symbology.proofs.Walking.{Found}
@@ -123,29 +124,15 @@ module _ (packet : Packet) (radials bins r : ℕ) (s t : List ℕ) (i j : ℕ) {
       → (mark ≡ mark_of (either (row_in A) (row_in B))) × (row ≡ shown bins (either (row_in A) (row_in B)))
   both_shown m e = rw (gap_radial packet radials bins r s i f, gap_radial packet radials bins r t j g) (m, e)
 
--- ---- the radial that is noted
-
-module _ (noted none r : ℕ) (d : Bool) where
-  pub note_kept : not d ≡ true → noted ≡ note_of noted none r d
-  unfolding note_of
-  note_kept h = rw (not-true d h) refl
-
-  pub note_first : not d ≡ false → noted ≡ none → r ≡ note_of noted none r d
-  unfolding note_of
-  note_first h e = rw (not-false d h, eq-eqb noted none e) refl
-
-  pub note_later : not d ≡ false → (noted ≡ none → ⊥) → noted ≡ note_of noted none r d
-  unfolding note_of
-  note_later h e = rw (not-false d h, ne_eqb noted none e) refl
-
 -- ---- the comparison of all
 
 module _ (packet : Packet) (radials bins : ℕ) (s t : List ℕ) (all : Result (Unit {0})) where
   -- what is left says, where a radial was noted or none was
-  unfoldable pub tail_of : ℕ → ℕ → List (List ℕ) → List (List ℕ) → Result (Unit {0})
-  tail_of noted r xs ys = cond (eqb noted radials) (agreed r xs ys) (refused (kind 44 (nat noted ∷ [])))
+  abbrev pub tail_of : Option ℕ → ℕ → List (List ℕ) → List (List ℕ) → Result (Unit {0})
+  tail_of None r xs ys = agreed r xs ys
+  tail_of (Some n) r xs ys = refused (kind 44 (nat n ∷ []))
 
-  pub record Paired (r i j noted : ℕ) : Type 0 where
+  pub record Paired (r i j : ℕ) (noted : Option ℕ) : Type 0 where
     pub within : r ≤ radials
     pub a : Given (List Float)
     pub a_is : run (in_mode true (any_walk packet radials bins (radials - r) r)) s i ≡ accepted a
@@ -154,20 +141,20 @@ module _ (packet : Packet) (radials bins : ℕ) (s t : List ℕ) (all : Result (
     pub known : refuse (not (same_floats a.value b.value)) (kind 43 []) (tail_of noted r a.rows b.rows) ≡ all
 
 -- the same of equal lists
-carried : (packet : Packet) (radials bins : ℕ) (s t : List ℕ) (all : Result (Unit {0})) (noted r : ℕ) {v v' w w' : List Float} {x x' y y' : List (List ℕ)} → v ≡ v' → w ≡ w' → x ≡ x' → y ≡ y'
+carried : (packet : Packet) (radials bins : ℕ) (s t : List ℕ) (all : Result (Unit {0})) (noted : Option ℕ) (r : ℕ) {v v' w w' : List Float} {x x' y y' : List (List ℕ)} → v ≡ v' → w ≡ w' → x ≡ x' → y ≡ y'
     → refuse (not (same_floats v w)) (kind 43 []) (tail_of packet radials bins s t all noted r x y) ≡ all
     → refuse (not (same_floats v' w')) (kind 43 []) (tail_of packet radials bins s t all noted r x' y') ≡ all
 carried packet radials bins s t all noted r a b c d h = rw (← a, ← b, ← c, ← d) h
 
 pub paired_first : (packet : Packet) (radials bins : ℕ) (s t : List ℕ) (i j : ℕ)
     → (x : Accepted (run (in_mode true (any_walk packet radials bins radials 0)) s i)) → (y : Accepted (run (in_mode true (any_walk packet radials bins radials 0)) t j))
-    → Paired packet radials bins s t (judged (run (in_mode true (any_walk packet radials bins radials 0)) s i) (run (in_mode true (any_walk packet radials bins radials 0)) t j)) 0 i j radials
-unfolding judged tail_of
+    → Paired packet radials bins s t (judged (run (in_mode true (any_walk packet radials bins radials 0)) s i) (run (in_mode true (any_walk packet radials bins radials 0)) t j)) 0 i j None
+unfolding judged
 paired_first packet radials bins s t i j (a, ai) (b, bi) =
     let z : radials - 0 ≡ radials = omega arith in
-    record { within = omega arith; a = a; a_is = rw z ai; b = b; b_is = rw z bi; known = rw (ai, bi, eq-eqb radials radials refl) refl }
+    record { within = omega arith; a = a; a_is = rw z ai; b = b; b_is = rw z bi; known = rw (ai, bi) refl }
 
-module _ {packet : Packet} {radials bins : ℕ} {s t : List ℕ} {all : Result (Unit {0})} {r i j noted : ℕ} (inv : Paired packet radials bins s t all r i j noted) where
+module _ {packet : Packet} {radials bins : ℕ} {s t : List ℕ} {all : Result (Unit {0})} {r i j : ℕ} {noted : Option ℕ} (inv : Paired packet radials bins s t all r i j noted) where
   module _ (lt : r < radials) where
     one : radials - r ≡ suc (radials - suc r)
     one = omega arith
@@ -205,19 +192,27 @@ module _ {packet : Packet} {radials bins : ℕ} {s t : List ℕ} {all : Result (
         by false h k = let z : x ≡ kind 43 [] = cc in rw z k
 
     tail_on : tail_of packet radials bins s t all noted r (sa.codes ∷ sa.rest.rows) (sb.codes ∷ sb.rest.rows)
-        ≡ tail_of packet radials bins s t all (note_of noted radials r (disagree sa.codes sb.codes)) (suc r) sa.rest.rows sb.rest.rows
-    unfolding tail_of note_of agreed
-    tail_on = by (eqb noted radials) refl (disagree sa.codes sb.codes)
+        ≡ tail_of packet radials bins s t all (note_of noted r (disagree sa.codes sb.codes)) (suc r) sa.rest.rows sb.rest.rows
+    unfolding agreed
+    tail_on = go noted (disagree sa.codes sb.codes) refl
       where
-        by : (c : Bool) → eqb noted radials ≡ c → (d : Bool)
-            → cond c (refuse d (kind 44 (nat r ∷ [])) (agreed (suc r) sa.rest.rows sb.rest.rows)) (refused (kind 44 (nat noted ∷ [])))
-            ≡ cond (eqb (cond (d && c) r noted) radials) (agreed (suc r) sa.rest.rows sb.rest.rows) (refused (kind 44 (nat (cond (d && c) r noted) ∷ [])))
-        by true e true = let ne : r ≡ radials → ⊥ = λ q. omega arith in rw (ne_eqb r radials ne) refl
-        by true e false = rw e refl
-        by false e true = rw e refl
-        by false e false = rw e refl
+        tail : Option ℕ → Result (Unit {0})
+        tail n = tail_of packet radials bins s t all n (suc r) sa.rest.rows sb.rest.rows
 
-    pub paired_turn : {i' j' noted' : ℕ} {d : Bool} → accepted (side i' j' d) ≡ Turned → noted' ≡ note_of noted radials r d
+        none_yet : (d : Bool) → refuse d (kind 44 (nat r ∷ [])) (tail None) ≡ tail (note_of None r d)
+        none_yet true = refl
+        none_yet false = refl
+
+        one_noted : (k : ℕ) (d : Bool) → refused (kind 44 (nat k ∷ [])) ≡ tail (note_of (Some k) r d)
+        one_noted k true = refl
+        one_noted k false = refl
+
+        go : (n : Option ℕ) (d : Bool) → disagree sa.codes sb.codes ≡ d
+            → tail_of packet radials bins s t all n r (sa.codes ∷ sa.rest.rows) (sb.codes ∷ sb.rest.rows) ≡ tail (note_of n r (disagree sa.codes sb.codes))
+        go None d e = none_yet (disagree sa.codes sb.codes)
+        go (Some k) d e = one_noted k (disagree sa.codes sb.codes)
+
+    pub paired_turn : {i' j' : ℕ} {noted' : Option ℕ} {d : Bool} → accepted (side i' j' d) ≡ Turned → noted' ≡ note_of noted r d
         → Paired packet radials bins s t all (r + 1) i' j' noted'
     paired_turn {i'} {j'} {noted'} {d} e n = by (same_float sa.first.value sb.first.value) (e ∙ turned_is) known_is
       where
@@ -249,10 +244,9 @@ module _ {packet : Packet} {radials bins : ℕ} {s t : List ℕ} {all : Result (
         let y = none true packet radials bins t r j inv.b (rw z at inv.b_is) in
         carried packet radials bins s t all noted r (ap (λ (g : Given (List Float)). g.value) x) (ap (λ (g : Given (List Float)). g.value) y) (ap (λ (g : Given (List Float)). g.rows) x) (ap (λ (g : Given (List Float)). g.rows) y) inv.known
 
-    pub paired_noted : (noted ≡ radials → ⊥) → refused (kind 44 (nat noted ∷ [])) ≡ all
-    unfolding tail_of
-    paired_noted ne = simp (ne_eqb noted radials ne) at none_left
+    pub paired_noted : {n : ℕ} → noted ≡ Some n → refused (kind 44 (nat n ∷ [])) ≡ all
+    paired_noted e = rw e at none_left
 
-    pub paired_end : noted ≡ radials → accepted tt ≡ all
-    unfolding tail_of agreed
-    paired_end e = simp (eq-eqb noted radials e) at none_left
+    pub paired_end : noted ≡ None → accepted tt ≡ all
+    unfolding agreed
+    paired_end e = rw e at none_left

@@ -13,11 +13,13 @@ use Rattle.symbology.proofs.Modes.{mode_give, mode_stop, mode_plain, mode_walk_t
 use Rattle.wire.specs.declared.error.XdrItem.{XdrItem}
 use Rattle.xdr.specs.Xdr.{pass, at_least0, pointer, counted, further, elements, list_head}
 use Rattle.xdr.proofs.Plains.{plain_pass, plain_int, plain_float, plain_string, plain_parameter, plain_counted, plain_list_head}
-use Rattle.symbology.specs.Symbology.{Sweep, product_block, xdr_radials, Gates28, component_head, component, only, payload}
+use Rattle.symbology.specs.Symbology.{Sweep, product_block, xdr_radials, component_head, component, only, payload}
+use Rattle.symbology.specs.declared.generic.Gates28.{Gates28}
 use Rattle.symbology.specs.Walk.{in_mode, any_walk, only_whole, listed, position, sweep_from, Planned, Plans}
 use Rattle.symbology.specs.declared.figures.Figures.{Figures}
 use Rattle.wire.proofs.Results.{one_value}
-use Rattle.symbology.specs.declared.spans.PlanRead.{PlanRead}
+use Rattle.symbology.specs.declared.spans.Plan.{Plan}
+use Rattle.std.specs.Prelude as Std
 
 -- ---- the order of readings
 
@@ -68,7 +70,7 @@ counted_small (pos (suc n)) h k = (omega arith, ltb-false _ _ k)
 counted_small (negsuc n) h k = let z : ◌≡◌ {A = ℕ} 0 1 = cc in absurd (omega arith)
 
 -- a head that passed has one to 100,000 radials
-head_small : (s : List ℕ) (p : ℕ) {h : Gates28} {q : ℕ} → passed h q ≡ walk component_head s p → (0 < h.radials) × (h.radials ≤ 100000)
+pub head_small : (s : List ℕ) (p : ℕ) {h : Gates28} {q : ℕ} → passed h q ≡ walk component_head s p → (0 < h.radials) × (h.radials ≤ 100000)
 unfolding component_head
 head_small s p {h} {q} e =
     let a = parts _ _ s p e in
@@ -88,28 +90,14 @@ head_small s p {h} {q} e =
         let b : h ≡ record { radials = at_least0 v; gate_width = w; first_gate = f } = cc in
         rw b x
 
--- an answer with its position, as a walk
-walk_of : {A : Type 0} (e : Ended A) {a : A} {q : ℕ} → accepted (a, q) ≡ reached e → passed a q ≡ e
-walk_of {A} (passed b m) {a} {q} h =
-    let l : ◌≡◌ {A = A × ℕ} (a, q) (b, m) = cc in
-    ap (λ x. passed x.0 x.1) l
-walk_of (halted x m) h = let z : ◌≡◌ {A = ℕ} 0 1 = cc in absurd (omega arith)
-
-halt_of : {A : Type 0} (e : Ended A) {x : Refusal} → refused x ≡ reached e → (q : ℕ) × (halted x q ≡ e)
-halt_of (passed b m) h = let z : ◌≡◌ {A = ℕ} 0 1 = cc in absurd (omega arith)
-halt_of (halted y m) {x} h = let l : x ≡ y = cc in (m, ap (λ z. halted z m) l)
-
 module _ (m : Bool) (s : List ℕ) (p : ℕ) where
-  pub component_refused : {x : Refusal} → refused x ≡ reached (walk component_head s p) → refused x ≡ run (in_mode m component) s p
+  pub component_refused : {x : Refusal} {q : ℕ} → halted x q ≡ walk component_head s p → refused x ≡ run (in_mode m component) s p
   unfolding component
-  component_refused h = mode_halted _ headed component_head plain_head s p (halt_of _ h).1
+  component_refused h = mode_halted _ headed component_head plain_head s p h
 
-  pub component_at : {h : Gates28} {q : ℕ} → accepted (h, q) ≡ reached (walk component_head s p) → run (in_mode m component) s p ≡ run (in_mode m (headed h)) s q
+  pub component_at : {h : Gates28} {q : ℕ} → passed h q ≡ walk component_head s p → run (in_mode m component) s p ≡ run (in_mode m (headed h)) s q
   unfolding component
-  component_at h = mode_passed _ headed component_head plain_head s p (walk_of _ h)
-
-pub component_small : (s : List ℕ) (p : ℕ) {h : Gates28} {q : ℕ} → accepted (h, q) ≡ reached (walk component_head s p) → (0 < h.radials) × (h.radials ≤ 100000)
-component_small s p h = head_small s p (walk_of _ h)
+  component_at h = mode_passed _ headed component_head plain_head s p h
 
 -- ---- plans
 
@@ -127,7 +115,7 @@ accepted_run {W} {A} t s p {n} h = go (walk t s p) refl h
     go (passed a q) k l = let g = run_of_passed t s p k in let m : q ≡ n = cc in (g.0, (g.1.0, g.1.1.1 ∙ m))
     go (halted y q) k l = let z : ◌≡◌ {A = ℕ} 0 1 = cc in absurd (omega arith)
 
-pub plans_as : (m : Bool) (r : PlanRead) (s : List ℕ) {R Q : Result (Given Sweep)} → R ≡ Q → Plans m r s Q → Plans m r s R
+pub plans_as : (m : Bool) (r : Std.Result Plan Level3DecodeError) (s : List ℕ) {R Q : Result (Given Sweep)} → R ≡ Q → Plans m r s Q → Plans m r s R
 plans_as m r s e h = rw e h
 
 abbrev radials_of_lem : Figures → Flat (List Float)
@@ -299,9 +287,8 @@ module _ {A : Type 0} (m : Bool) (e : Flat A) (s : List ℕ) where
   next_refused zero p h l = absurd (omega (arith, h))
   next_refused (suc k) p h l = ap (λ r. then r λ q. position (walk (in_mode m (further e k)) s q)) l ∙ sym (next_is k p _ refl)
 
-  pub next_at : (k p : ℕ) {q : ℕ} → 0 < k → accepted q ≡ position (walk (in_mode m (pointer >> e)) s p) → position (walk (in_mode m (further e k)) s p) ≡ position (walk (in_mode m (further e (k - 1))) s q)
-  next_at zero p h l = absurd (omega (arith, h))
-  next_at (suc k) p h l = let f : suc k - 1 ≡ k = omega arith in rw f (next_is k p _ refl ∙ ap (λ r. then r λ q. position (walk (in_mode m (further e k)) s q)) (sym l))
+  pub next_at : {k n : ℕ} (p : ℕ) {q : ℕ} → n ≡ suc k → accepted q ≡ position (walk (in_mode m (pointer >> e)) s p) → position (walk (in_mode m (further e n)) s p) ≡ position (walk (in_mode m (further e k)) s q)
+  next_at {k} p h l = rw h (next_is k p _ refl ∙ ap (λ r. then r λ q. position (walk (in_mode m (further e k)) s q)) (sym l))
 
   pub next_none : (k p : ℕ) → k ≡ 0 → accepted p ≡ position (walk (in_mode m (further e k)) s p)
   unfolding further walk
@@ -341,23 +328,12 @@ module _ (m : Bool) (s : List ℕ) (p : ℕ) where
 
 -- ---- what a component's plan says
 
-module _ (m : Bool) (s : List ℕ) {R : Result (Given Sweep)} {r : PlanRead} where
-  pub plan_error : {e : Level3DecodeError} → r ≡ PlanRead.Refused e → Plans m r s R → refused (refusal_of e) ≡ R
-  unfolding Plans
-  plan_error h k = subst (λ x. Plans m x s R) h k
+module _ (m : Bool) (s : List ℕ) (p : ℕ) where
+  pub plan_stops : {x : Refusal} → refused x ≡ run (in_mode m component) s p → refused x ≡ position (walk (in_mode m component) s p)
+  plan_stops h = ap (λ y. then y λ g. accepted g.next) h ∙ sym (run_position (in_mode m component) s p)
 
-  pub plan_told : {f : Figures} {at next : ℕ} → r ≡ PlanRead.Value f at next → Plans m r s R → Planned m f at next s R
-  unfolding Plans
-  plan_told h k = subst (λ x. Plans m x s R) h k
-
-module _ (m : Bool) (s : List ℕ) (p : ℕ) {r : PlanRead} (plan : Plans m r s (run (in_mode m component) s p)) where
-  pub plan_stops : {e : Level3DecodeError} → r ≡ PlanRead.Refused e → refused (refusal_of e) ≡ position (walk (in_mode m component) s p)
-  plan_stops h = ap (λ x. then x λ g. accepted g.next) (plan_error m s h plan) ∙ sym (run_position (in_mode m component) s p)
-
-  pub plan_ends : {f : Figures} {at next : ℕ} → r ≡ PlanRead.Value f at next → accepted next ≡ position (walk (in_mode m component) s p)
-  plan_ends h =
-      let k = plan_told m s h plan in
-      ap accepted (sym k.next_is) ∙ ap (λ x. then x λ g. accepted g.next) (sym k.whole) ∙ sym (run_position (in_mode m component) s p)
+  pub plan_ends : {f : Figures} {at next : ℕ} → Planned m f at next s (run (in_mode m component) s p) → accepted next ≡ position (walk (in_mode m component) s p)
+  plan_ends k = ap accepted (sym k.next_is) ∙ ap (λ y. then y λ g. accepted g.next) (sym k.whole) ∙ sym (run_position (in_mode m component) s p)
 
 -- the list, after its first component
 module _ (m : Bool) (s : List ℕ) (p n : ℕ) {f : Figures} {at next : ℕ} (k : Planned m f at next s (run (in_mode m component) s p)) where

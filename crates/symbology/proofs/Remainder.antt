@@ -7,13 +7,13 @@ use mathlib.Core.Path.{◌≡◌, refl, sym, ap, ◌∙◌, subst}
 use mathlib.Core.Bool.{Bool, true, false, cond}
 use lib.Dec.{T, eqb, leb}
 use lib.IntN.{ℤ, pos, negsuc}
-use lib.Ieee.{Float, nan, inf, fin, binary64, up, down, unlike, round, units, odd, neg, div, rem, of_int, of_bits, of_fields, size, fits, to_bits, ne, eq}
+use lib.Ieee.{Float, nan, inf, fin, binary64, up, down, unlike, round, units, odd, neg, div, rem, of_int, of_bits, of_fields, size, fits, to_bits, is_nan}
 use lib.Ieee.Exact.{HasValue, odd_sign}
 use lib.Ieee.Scale.{round_same}
 use lib.Ieee.Back.{round_whole}
 use borrow.Author.Tests.{ne_eqb}
 use lib.Ieee.Bits.{of_bits-to_bits}
-use Rattle.wire.proofs.Equal.{float_is, nan_first}
+use Rattle.wire.proofs.Patterns.{is_nan_lem}
 use Rattle.wire.specs.Float.{f64}
 
 -- ---- whole numbers
@@ -192,21 +192,20 @@ module _ (x : Float) (s : Bool) (q k : ℕ) (value : HasValue x s (q * 2 ^ k) (2
 -- ---- what the code has
 
 -- a turn of the loop that doubles
-pub halved : (r left : ℕ) → 0 < left → r * 2 % 360 * 2 ^ (left - 1) % 360 ≡ r * 2 ^ left % 360
-halved r left h =
-    let here : 1 + (left - 1) ≡ left = omega arith in
-    let e : 2 ^ left ≡ 2 * 2 ^ (left - 1) = ap (λ (n : ℕ). 2 ^ n) (sym here) ∙ pow-add 2 1 (left - 1) in
-    let order : r * 2 * 2 ^ (left - 1) ≡ r * (2 * 2 ^ (left - 1)) = omega arith in
-    mul-mod_first (r * 2) (2 ^ (left - 1)) 360 ∙ ap (λ (n : ℕ). n % 360) order ∙ ap (λ (n : ℕ). (r * n) % 360) (sym e)
+pub twice : (n k : ℕ) → n * 2 ^ k % 360 * 2 % 360 ≡ n * 2 ^ (k + 1) % 360
+twice n k =
+    let e : 2 ^ (k + 1) ≡ 2 ^ k * 2 = pow-add 2 k 1 in
+    let order : n * 2 ^ k * 2 ≡ n * (2 ^ k * 2) = omega arith in
+    mul-mod_first (n * 2 ^ k) 2 360 ∙ ap (λ (m : ℕ). m % 360) order ∙ ap (λ (m : ℕ). (n * m) % 360) (sym e)
 
 pub whole_float : (q e r : ℕ) → r ≡ q % 360 * 2 ^ e % 360 → of_int binary64 (pos r) ≡ round binary64 false (q * 2 ^ e % 360) 1
 unfolding of_int
 whole_float q e r h = ap (λ (n : ℕ). round binary64 false n 1) (h ∙ mul-mod_first q (2 ^ e) 360)
 
-pub nan_stays : (x y : Float) → ne x x ≡ true → x ≡ rem binary64 x y
-unfolding rem ne eq
+pub nan_stays : (x y : Float) → is_nan x ≡ true → x ≡ rem binary64 x y
+unfolding rem
 nan_stays x y h =
-    let e : x ≡ nan = float_is x nan (sym (nan_first x nan h)) in
+    let e : x ≡ nan = is_nan_lem x h in
     rw e refl
 
 module _ (x : Float) (fit : T (fits binary64 x)) where

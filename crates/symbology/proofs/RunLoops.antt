@@ -1,5 +1,5 @@
 -- The run lengths of AF1F, at the byte that a loop reads. Assumes nothing.
-use Rattle.std.proofs.Common.{◌≡◌, ℕ, ◌+◌, ◌-◌, ◌<◌, ◌≤◌, List, ◌∷◌, length, get_or, drop, zero-add, add-one, arith, drop_of_length-le, drop-cons, le-leb}
+use Rattle.std.proofs.Common.{◌≡◌, ℕ, ◌+◌, ◌-◌, ◌<◌, ◌≤◌, cond, leb, List, ◌∷◌, length, get_or, drop, zero-add, add-one, arith, drop_of_length-le, drop-cons, le-leb}
 use native.Mathlib.Nat.{sub-zero}
 use borrow.Author.Tests.{lt-leb}
 use Rattle.symbology.specs.Rows.{run_of, reach}
@@ -22,18 +22,17 @@ module _ {s : List ℕ} {n i gate : ℕ} (inv : Reached s n i gate) where
   unfolding reach
   reached_end h = omega (arith, rw (drop_of_length-le s h) at inv.known)
 
-  module _ {b : ℕ} (inside : i < length s) (is : b ≡ get_or s i 0) where
-    here : gate + reach (n - gate) (b ∷ drop (i + 1) s) ≡ reach n s
-    here = rw (left_cons s i inside, ← is) at inv.known
-
-    pub reached_over : n - gate < run_of b → gate ≡ reach n s
+  module _ {run : ℕ} (inside : i < length s) (is : run ≡ run_of (get_or s i 0)) where
+    here : gate + cond (leb run (n - gate)) (run + reach (n - gate - run) (drop (i + 1) s)) 0 ≡ reach n s
     unfolding reach
+    here = rw is (rw (left_cons s i inside) at inv.known)
+
+    pub reached_over : n - gate < run → gate ≡ reach n s
     reached_over h = omega (arith, simp (lt-leb _ _ h) at here)
 
-    pub reached_turn : run_of b ≤ n - gate → Reached s n (i + 1) (gate + run_of b)
-    unfolding reach
+    pub reached_turn : run ≤ n - gate → Reached s n (i + 1) (gate + run)
     reached_turn h =
-        let e : n - (gate + run_of b) ≡ n - gate - run_of b = omega arith in
+        let e : n - (gate + run) ≡ n - gate - run = omega arith in
         record {
           place = omega arith;
           within = omega arith;

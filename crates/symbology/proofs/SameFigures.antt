@@ -1,10 +1,8 @@
--- Equal figures: what the tests say, and what they show. Assumes nothing.
-use Rattle.std.proofs.Common.{◌≡◌, ℕ, Bool, true, false, not, ◌&&◌, eqb, refl, ap, arith, eq-eqb, ne_eqb, eqb-true}
-use borrow.Author.Tests.{not-false, not-true}
+-- What the test of equal figures shows. Assumes nothing.
+use Rattle.std.proofs.Common.{◌≡◌, ℕ, true, eqb, refl, ap, arith, eqb-true}
 use Rattle.wire.specs.SameFloat.{same_float}
 use Rattle.wire.proofs.Codes.{both}
 use Rattle.wire.proofs.Equal.{float_is}
-use lib.Ieee.{Float}
 use Rattle.symbology.specs.Merge.{same_packet, same_geometry, same_figures}
 use Rattle.symbology.specs.declared.figures.Figures.{Figures}
 use Rattle.symbology.specs.declared.figures.Packet.{Packet}
@@ -44,32 +42,3 @@ figures_are f g h =
     let b = both (eqb f.n_radials g.n_radials) _ a.1 in
     let c = both (eqb f.n_bins g.n_bins) _ b.1 in
     alike (packet_is f.packet g.packet a.0) (eqb-true _ _ b.0) (eqb-true _ _ c.0) (geometry_is f.geometry g.geometry c.1)
-
--- the code's answers, test by test
-module _ (f g : Figures) {p : Bool} (is : p ≡ same_packet f.packet g.packet) where
-  pub figures_packet : not p ≡ true → false ≡ same_figures f g
-  unfolding same_figures
-  figures_packet h = rw (← is, not-true p h) refl
-
-  module _ (h : not p ≡ false) where
-    pub figures_radials : (f.n_radials ≡ g.n_radials → ⊥) → false ≡ same_figures f g
-    unfolding same_figures
-    figures_radials n = rw (← is, not-false p h, ne_eqb _ _ n) refl
-
-    module _ (n : f.n_radials ≡ g.n_radials) where
-      pub figures_bins : (f.n_bins ≡ g.n_bins → ⊥) → false ≡ same_figures f g
-      unfolding same_figures
-      figures_bins b = rw (← is, not-false p h, eq-eqb _ _ n, ne_eqb _ _ b) refl
-
-      pub figures_geometry : f.n_bins ≡ g.n_bins → {r : Bool} → r ≡ same_geometry f.geometry g.geometry → r ≡ same_figures f g
-      unfolding same_figures
-      figures_geometry b e = rw (← is, not-false p h, eq-eqb _ _ n, eq-eqb _ _ b) e
-
--- the gate figures, one after the other
-
-module _ {p : Bool} (a b c d : Float) (is : p ≡ same_float a b) where
-  pub first_differs : not p ≡ true → false ≡ same_float a b && same_float c d
-  first_differs h = rw (← is, not-true p h) refl
-
-  pub first_same : {q : Bool} → not p ≡ false → q ≡ same_float c d → q ≡ same_float a b && same_float c d
-  first_same h e = rw (← is, not-false p h) e

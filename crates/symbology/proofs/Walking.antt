@@ -1,10 +1,10 @@
 -- The walk over the radials, one for all packets: what the code's answers say of it. Assumes nothing.
-use Rattle.std.proofs.Common.{◌≡◌, ℕ, suc, ◌+◌, ◌-◌, ◌*◌, ◌<◌, ◌≤◌, Bool, true, false, ◌||◌, eqb, ltb, List, [], ◌∷◌, length, take, drop, sym, refl, ap, ◌∙◌, add-one, arith, ltb-false, eqb-true}
+use Rattle.std.proofs.Common.{Option, Some, None, ◌≡◌, ℕ, suc, ◌+◌, ◌-◌, ◌*◌, ◌<◌, ◌≤◌, Bool, true, false, ◌||◌, eqb, ltb, List, [], ◌∷◌, length, take, drop, sym, refl, ap, ◌∙◌, add-one, arith, ltb-false, eqb-true}
 use lib.Seq.{slice}
 use lib.Ieee.{Float}
 use Rattle.wire.specs.Bytes.{u16_at}
 use Rattle.wire.specs.Refusal.{Refusal}
-use Rattle.wire.specs.Result.{Result, accepted, refused, then}
+use Rattle.wire.specs.Result.{Result, accepted, answer, refused, then}
 use Rattle.wire.specs.Reading.{give, ◌>>=◌, ◌>>◌, radial_data, Ended, passed, halted, onward, past_row, walk}
 use Rattle.wire.proofs.Readings.{walk_give, then_passed, part_slice, parts, past_test}
 use Rattle.symbology.proofs.Modes.{mode_give, mode_radial, mode_walk_then, mode_walk_halted}
@@ -12,12 +12,14 @@ use Rattle.symbology.proofs.Frames.{plain_frame}
 use Rattle.symbology.specs.Rows.{row_of}
 use Rattle.symbology.specs.Places.{Enough}
 use Rattle.symbology.specs.Symbology.{covered, count_wrong}
-use Rattle.symbology.specs.Walk.{in_mode, kept_of, Span, Place, expected_of, beam_span, xdr_radial_span, any_frame, any_radial, any_walk, placed, position, next_of, ends_at, walk_from}
+use Rattle.symbology.specs.Walk.{in_mode, kept_of, Span, expected_of, beam_span, xdr_radial_span, any_frame, any_radial, any_walk, placed, position, ends_at, walk_from}
 use Rattle.symbology.proofs.Beams.{beam_is}
 use Rattle.symbology.proofs.XdrFrames.{framed}
 use Rattle.symbology.specs.declared.figures.Packet.{Packet}
 use Rattle.symbology.specs.declared.figures.Packet.TheVariants.{Packet16, PacketAf1f, Packet28}
-use Rattle.symbology.specs.declared.spans.Next.{Next}
+use Rattle.symbology.specs.declared.spans.Place.{Place}
+use Rattle.std.specs.Prelude as Std
+use Rattle.wire.specs.declared.error.Level3DecodeError.{Level3DecodeError}
 
 -- ---- a frame that passed
 
@@ -56,10 +58,10 @@ module _ (packet : Packet) (old : packet ≡ Packet28 → ⊥) (radials bins r :
 
 module _ (radials bins r : ℕ) (s : List ℕ) (p : ℕ) where
   xdr_radial_spanned : (sp : Span) (q : ℕ) → passed sp q ≡ walk (xdr_radial_span radials bins r) s p → Spanned Packet28 bins s sp q
-  unfolding xdr_radial_span expected_of Enough
+  unfolding xdr_radial_span Enough
   xdr_radial_spanned sp q e =
       let a = parts _ _ s p e in
-      let f = framed radials r (expected_of false bins) s p a.value a.middle a.first in
+      let f = framed radials r (expected_of (Some bins)) s p a.value a.middle a.first in
       last f.bins_are f.room f.inside (a.second ∙ walk_give _ s _)
     where
       last : {n m : ℕ} {centre : Float} → n ≡ bins → n * 4 ≤ length s - m → m ≤ length s → passed sp q ≡ passed (record { centre = centre; size = n * 4 }) m
@@ -93,17 +95,16 @@ pub record Found (packet : Packet) (radials bins r : ℕ) (s : List ℕ) (p : �
   pub enough : Enough packet bins size
 
 module _ (packet : Packet) (radials bins r : ℕ) (s : List ℕ) (p : ℕ) where
-  pub found : {a : Float} {from to : ℕ} → accepted (record { centre = a; from = from; to = to }) ≡ placed (walk (any_frame packet radials bins r) s p)
-      → Found packet radials bins r s p a from to
-  found {a} {from} {to} e = go (walk (any_frame packet radials bins r) s p) refl e
+  pub found : {place : Place} → accepted place ≡ placed (walk (any_frame packet radials bins r) s p) → Found packet radials bins r s p place.centre place.from place.to
+  found {place} e = go (walk (any_frame packet radials bins r) s p) refl e
     where
-      go : (w : Ended Span) → walk (any_frame packet radials bins r) s p ≡ w → accepted (record { centre = a; from = from; to = to }) ≡ placed w
-          → Found packet radials bins r s p a from to
+      go : (w : Ended Span) → walk (any_frame packet radials bins r) s p ≡ w → accepted place ≡ placed w
+          → Found packet radials bins r s p place.centre place.from place.to
       go (passed sp q) h k =
-          let l : ◌≡◌ {A = Place} (record { centre = a; from = from; to = to }) (record { centre = sp.centre; from = q; to = q + sp.size }) = cc in
-          let x : a ≡ sp.centre = ap (λ y. y.centre) l in
-          let f : from ≡ q = ap (λ y. y.from) l in
-          let t : to ≡ q + sp.size = ap (λ y. y.to) l in
+          let l : ◌≡◌ {A = Place} place (record { centre = sp.centre; from = q; to = q + sp.size }) = cc in
+          let x : place.centre ≡ sp.centre = ap (λ y. y.centre) l in
+          let f : place.from ≡ q = ap (λ y. y.from) l in
+          let t : place.to ≡ q + sp.size = ap (λ y. y.to) l in
           let g = spanned packet radials bins r s p sp q (sym h) in
           record {
             size = sp.size;
@@ -202,6 +203,6 @@ module _ (m : Bool) (packet : Packet) (radials bins : ℕ) (s : List ℕ) where
         sym (ap (λ t. position (walk {W = ⊥} t s at)) (mode_give m [])) ∙ sym (ap (λ k. position (walk (in_mode m (any_walk packet radials bins k r)) s at)) e) ∙ inv.left
 
 -- a radial that ended where it was guessed to end
-pub ends_there : (next : Next) (p : ℕ) → ends_at next p ≡ true → next_of next ≡ accepted p
-ends_there (Next.At q) p h = ap accepted (eqb-true q p h)
-ends_there (Next.Refused x) p h = let z : ◌≡◌ {A = ℕ} 0 1 = cc in absurd (omega arith)
+pub ends_there : (next : Std.Result ℕ Level3DecodeError) (p : ℕ) → ends_at next p ≡ true → answer next ≡ accepted p
+ends_there (Std.Ok q) p h = ap accepted (eqb-true q p h)
+ends_there (Std.Err x) p h = let z : ◌≡◌ {A = ℕ} 0 1 = cc in absurd (omega arith)

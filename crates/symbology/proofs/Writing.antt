@@ -4,7 +4,7 @@ use lib.ListN.{length-replicate}
 use lib.Ieee.{Float}
 use borrow.Rule.Slice.PartMut.{put_mid, mid_of}
 use Rattle.wire.specs.Refusal.{Refusal}
-use Rattle.wire.specs.Result.{Result, accepted, refused}
+use Rattle.wire.specs.Result.{answer, Result, accepted, refused}
 use Rattle.wire.specs.Reading.{marked, ◌>>=◌, ◌>>◌, radial_data, more, after_row, run, Given, passed, walk}
 use Rattle.wire.proofs.Runs.{run_passed, plain_passed}
 use Rattle.wire.proofs.Results.{one_value}
@@ -13,6 +13,10 @@ use Rattle.wire.proofs.Parts.{Laid, laid_first, laid_end, laid_put, laid_set}
 use Rattle.symbology.specs.Answers.{joined, shown}
 use Rattle.symbology.specs.Places.{Enough}
 use Rattle.symbology.specs.Rows.{row_of, codes_of, FullRow}
+use Rattle.std.specs.Prelude as Std
+use Rattle.std.specs.Prelude.{IsOk}
+use Rattle.wire.specs.declared.error.Level3DecodeError.{Level3DecodeError}
+use Rattle.symbology.specs.declared.spans.Place.{Place}
 use Rattle.symbology.specs.Walk.{in_mode, kept_of, cells_of, codes_in, Span, any_frame, any_radial, any_walk, placed, Accepted, first_row, row_in, centre_in}
 use Rattle.symbology.proofs.FullRow.{full_row}
 use Rattle.symbology.proofs.Frames.{plain_frame}
@@ -111,6 +115,12 @@ frame_there m packet radials bins r s p {x} acc e =
     let b = plain_passed (any_frame packet radials bins r) (plain_frame packet radials bins r) s p (ap (λ t. run t s p) (sym (mode_plain m (any_frame packet radials bins r) (plain_frame packet radials bins r))) ∙ a.first_is) in
     let c = e ∙ sym (ap placed b.0) in
     absurd (let z : ◌≡◌ {A = ℕ} 0 1 = cc in omega arith)
+
+-- so the code's answer is its place
+pub frame_ok : (m : Bool) (packet : Packet) (radials bins r : ℕ) (s : List ℕ) (p : ℕ) (a : Std.Result Place Level3DecodeError)
+    → Accepted (run (in_mode m (any_radial packet radials bins r)) s p) → answer a ≡ placed (walk (any_frame packet radials bins r) s p) → IsOk a
+frame_ok m packet radials bins r s p (Std.Ok place) acc e = refl
+frame_ok m packet radials bins r s p (Std.Err x) acc e = frame_there m packet radials bins r s p acc e
 
 -- a frame that passed is a place that was found
 found_at : (packet : Packet) (radials bins r : ℕ) (s : List ℕ) (p : ℕ) (sp : Span) (q : ℕ) → passed sp q ≡ walk (any_frame packet radials bins r) s p

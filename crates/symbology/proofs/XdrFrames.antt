@@ -1,67 +1,96 @@
 -- Packet 28: a radial's frame, as the code goes through its items. Assumes nothing.
-use Rattle.std.proofs.Common.{◌≡◌, ℕ, zero, suc, ◌+◌, ◌-◌, ◌*◌, ◌≤◌, Bool, true, false, not, ◌&&◌, eqb, ltb, List, [], ◌∷◌, length, ℤ, pos, sym, refl, ap, ◌∙◌, arith, ltb-false, eq-eqb, ne_eqb, eqb-true}
+use Rattle.std.proofs.Common.{◌≡◌, ℕ, zero, suc, ◌+◌, ◌-◌, ◌*◌, ◌≤◌, Bool, true, false, cond, not, ◌&&◌, Option, Some, eqb, ltb, List, [], ◌∷◌, length, ℤ, pos, sym, refl, ap, ◌∙◌, arith, ltb-false, le-ltb, lt-ltb, eq-eqb, ne_eqb, eqb-true, ◌⊎◌, inl, inr, ◌<◌}
 use lib.Ieee.{Float}
 use lib.Signed.{le_z}
 use borrow.Author.Tests.{not-false}
-use Rattle.wire.specs.Refusal.{Refusal, kind, nat, whole}
+use Rattle.wire.specs.Refusal.{Refusal, refusal_of, kind, nat, whole}
 use Rattle.wire.specs.Result.{accepted, refused}
 use Rattle.wire.specs.Reading.{Flat, give, ◌>>◌, refuse_if, Ended, passed, halted, onward, walk}
-use Rattle.wire.proofs.Readings.{walk_then, Parts, parts, parts_by, passed_check, walk_give}
+use Rattle.wire.proofs.Readings.{walk_then, walk_check, walk_checks, Parts, parts, parts_by, passed_check, walk_give}
 use Rattle.xdr.proofs.Items.{array_count_end}
 use Rattle.xdr.specs.Xdr.{at_least0}
-use Rattle.symbology.specs.Symbology.{XdrRadial, xdr_frame}
-use Rattle.symbology.specs.Walk.{expected_of, frame_tested, xdr_radial_then, xdr_radial_span, placed}
-use Rattle.xdr.specs.declared.xdr.Step.{Step}
-use Rattle.xdr.specs.Answers.{step_of, from}
-use Rattle.xdr.proofs.Lists.{check_by, check_next}
-
--- a step with its radial
-pub xdr_radial_then_lem : (centre : Float) (bins : ℕ) (st : Step) → xdr_radial_then centre bins st ≡ onward (step_of st) (λ _ p. passed (record { centre = centre; bins = bins }) p)
-xdr_radial_then_lem centre bins (Step.At p) = refl
-xdr_radial_then_lem centre bins (Step.Refused e p) = refl
+use Rattle.symbology.specs.Symbology.{xdr_frame}
+use Rattle.symbology.specs.Walk.{expected_of, frame_tested, xdr_radial_span, placed}
+use Rattle.symbology.specs.declared.generic.XdrRadial.{XdrRadial}
+use Rattle.wire.specs.declared.error.Level3DecodeError.{Level3DecodeError}
+use Rattle.xdr.specs.Cursor.{read_at, Leaves}
+use Rattle.xdr.specs.declared.xdr.XdrCursor.{XdrCursor}
+use Rattle.std.specs.Prelude as Std
 
 -- what the tests after the six items come to
-module _ {own own' : ℤ} (same : own' ≡ own) (radials r bins expected declared cells p : ℕ) where
+module _ {own own' : ℤ} (same : own' ≡ own) (radials r : ℕ) (expected : Option ℕ) (declared p : ℕ) where
+  abbrev bins : ℕ
+  bins = at_least0 own
+
   abbrev Is : Ended (Unit {0}) → Type 0
-  Is e = e ≡ frame_tested radials r own bins expected declared cells p
+  Is e = e ≡ frame_tested radials r own expected declared p
 
   pub is_29 : {x : Refusal} → le_z own' (pos 0) ≡ true → x ≡ kind 29 (nat radials ∷ whole own' ∷ []) → Is (halted x p)
   unfolding frame_tested
   is_29 t e = rw (← same, t) (ap (λ y. halted y p) e)
 
-  module _ (positive : le_z own' (pos 0) ≡ false) where
-    pub is_31 : (bins ≡ expected → ⊥) → Is (halted (kind 31 (nat r ∷ nat bins ∷ nat expected ∷ [])) p)
+  module _ (positive : le_z own' (pos 0) ≡ false) {n : ℕ} (n_is : n ≡ at_least0 own') {other : ℕ} (other_is : other ≡ expected_of expected n) where
+    pub is_31 : (n ≡ other → ⊥) → Is (halted (kind 31 (nat r ∷ nat n ∷ nat other ∷ [])) p)
     unfolding frame_tested
-    is_31 t = rw (← same, positive, ne_eqb _ _ t) refl
+    is_31 t = rw (← same, ← n_is, ← other_is, positive, ne_eqb _ _ t) refl
 
-    module _ (alike : bins ≡ expected) where
-      pub is_32 : (declared ≡ bins → ⊥) → Is (halted (kind 32 (nat r ∷ nat declared ∷ nat bins ∷ [])) p)
+    module _ (alike : n ≡ other) where
+      pub is_32 : (declared ≡ n → ⊥) → Is (halted (kind 32 (nat r ∷ nat declared ∷ nat n ∷ [])) p)
       unfolding frame_tested
-      is_32 t = rw (← same, positive, eq-eqb _ _ alike, ne_eqb _ _ t) refl
+      is_32 t = rw (← same, ← n_is, ← other_is, positive, eq-eqb _ _ alike, ne_eqb _ _ t) refl
 
-      module _ (whole_length : declared ≡ bins) {large : Bool} (is : large ≡ (eqb r 0 && ltb 4000000 cells)) where
-        pub is_33 : large ≡ true → Is (halted (kind 33 (nat radials ∷ nat bins ∷ nat cells ∷ nat 4000000 ∷ [])) p)
+      module _ (whole_length : declared ≡ n) where
+        pub is_33 : (eqb r 0 && ltb 4000000 (radials * n)) ≡ true → Is (halted (kind 33 (nat radials ∷ nat n ∷ nat (radials * n) ∷ nat 4000000 ∷ [])) p)
         unfolding frame_tested
-        is_33 t = rw (← same, positive, eq-eqb _ _ alike, eq-eqb _ _ whole_length, ← is, t) refl
+        is_33 t = rw (← same, ← n_is, ← other_is, positive, eq-eqb _ _ alike, eq-eqb _ _ whole_length, t) refl
 
-        pub all_passed : large ≡ false → Is (passed tt p)
+        pub all_passed : (eqb r 0 && ltb 4000000 (radials * n)) ≡ false → Is (passed tt p)
         unfolding frame_tested
-        all_passed t = rw (← same, positive, eq-eqb _ _ alike, eq-eqb _ _ whole_length, ← is, t) refl
+        all_passed t = rw (← same, ← n_is, ← other_is, positive, eq-eqb _ _ alike, eq-eqb _ _ whole_length, t) refl
 
 -- and that they are those of the reading, one after another, before what follows them
-pub frame_checked : {B : Type 0} (radials r : ℕ) (own : ℤ) (expected n : ℕ) (u : Flat B) (s : List ℕ) (e : Ended (Unit {0})) {w : Ended (Unit {0})} {y : Ended B}
-    → w ≡ onward e (λ _ p. frame_tested radials r own (at_least0 own) expected n (radials * at_least0 own) p) → y ≡ from u s w
-    → y ≡ from (refuse_if (le_z own (pos 0)) (kind 29 (nat radials ∷ whole own ∷ []))
-    >> (refuse_if (not (eqb (at_least0 own) expected)) (kind 31 (nat r ∷ nat (at_least0 own) ∷ nat expected ∷ []))
-    >> (refuse_if (not (eqb n (at_least0 own))) (kind 32 (nat r ∷ nat n ∷ nat (at_least0 own) ∷ []))
-    >> (refuse_if (eqb r 0 && ltb 4000000 (radials * at_least0 own)) (kind 33 (nat radials ∷ nat (at_least0 own) ∷ nat (radials * at_least0 own) ∷ nat 4000000 ∷ []))
-    >> u)))) s e
-unfolding frame_tested
-frame_checked radials r own expected n u s e h k =
-    check_next _ _ _ s e _ h λ h₁.
-    check_next _ _ _ s _ _ h₁ λ h₂.
-    check_next _ _ _ s _ _ h₂ λ h₃.
-    check_by _ _ _ s _ h₃ k
+abbrev fine : ℕ → Ended (Unit {0})
+fine p = passed tt p
+
+module _ {B : Type 0} (radials r : ℕ) (own : ℤ) (expected : Option ℕ) (n : ℕ) (u : Flat B) where
+  abbrev Tested : Flat B
+  Tested =
+      refuse_if (le_z own (pos 0)) (kind 29 (nat radials ∷ whole own ∷ []))
+      >> (refuse_if (not (eqb (at_least0 own) (expected_of expected (at_least0 own)))) (kind 31 (nat r ∷ nat (at_least0 own) ∷ nat (expected_of expected (at_least0 own)) ∷ []))
+      >> (refuse_if (not (eqb n (at_least0 own))) (kind 32 (nat r ∷ nat n ∷ nat (at_least0 own) ∷ []))
+      >> (refuse_if (eqb r 0 && ltb 4000000 (radials * at_least0 own)) (kind 33 (nat radials ∷ nat (at_least0 own) ∷ nat (radials * at_least0 own) ∷ nat 4000000 ∷ []))
+      >> u)))
+
+  module _ (s : List ℕ) (p : ℕ) where
+    four : (b₁ b₂ b₃ b₄ : Bool) (x₁ x₂ x₃ x₄ : Refusal)
+        → cond b₁ (halted x₁ p) (cond b₂ (halted x₂ p) (cond b₃ (halted x₃ p) (cond b₄ (halted x₄ p) (walk u s p))))
+        ≡ onward (cond b₁ (halted x₁ p) (cond b₂ (halted x₂ p) (cond b₃ (halted x₃ p) (cond b₄ (halted x₄ p) (fine p))))) (λ _ q. walk u s q)
+    four true b₂ b₃ b₄ x₁ x₂ x₃ x₄ = refl
+    four false true b₃ b₄ x₁ x₂ x₃ x₄ = refl
+    four false false true b₄ x₁ x₂ x₃ x₄ = refl
+    four false false false true x₁ x₂ x₃ x₄ = refl
+    four false false false false x₁ x₂ x₃ x₄ = refl
+
+    tests_are : walk Tested s p ≡ onward (frame_tested radials r own expected n p) (λ _ q. walk u s q)
+    unfolding frame_tested ◌>>◌
+    tests_are = walk_checks _ _ _ s p (walk_checks _ _ _ s p (walk_checks _ _ _ s p (walk_check _ _ _ s p))) ∙ four (le_z own (pos 0)) (not (eqb (at_least0 own) (expected_of expected (at_least0 own)))) (not (eqb n (at_least0 own))) (eqb r 0 && ltb 4000000 (radials * at_least0 own))
+        (kind 29 (nat radials ∷ whole own ∷ [])) (kind 31 (nat r ∷ nat (at_least0 own) ∷ nat (expected_of expected (at_least0 own)) ∷ []))
+        (kind 32 (nat r ∷ nat n ∷ nat (at_least0 own) ∷ [])) (kind 33 (nat radials ∷ nat (at_least0 own) ∷ nat (radials * at_least0 own) ∷ nat 4000000 ∷ []))
+
+  pub tests_no : {c : XdrCursor} {e : Level3DecodeError} → halted (refusal_of e) c.pos ≡ frame_tested radials r own expected n c.pos → Leaves (read_at Tested c) (Std.Err e) c c
+  tests_no {c} h = record { answered = sym (tests_are c.buf.now c.pos ∙ ap (λ y. onward y (λ _ p. walk u c.buf.now p)) (sym h)); kept = refl }
+
+  pub tests_on : {c c' : XdrCursor} {r' : Std.Result B Level3DecodeError} → passed tt c.pos ≡ frame_tested radials r own expected n c.pos → Leaves (read_at u c) r' c c'
+      → Leaves (read_at Tested c) r' c c'
+  tests_on {c} h k = record { answered = k.answered ∙ sym (tests_are c.buf.now c.pos ∙ ap (λ y. onward y (λ _ p. walk u c.buf.now p)) (sym h)); kept = k.kept }
+
+-- 33 is of the first radial alone
+pub large_grid : (r cells : ℕ) → r ≡ 0 → 4000000 < cells → (eqb r 0 && ltb 4000000 cells) ≡ true
+large_grid r cells h k = rw (eq-eqb r 0 h, lt-ltb 4000000 cells k) refl
+
+pub small_grid : (r cells : ℕ) → ((r ≡ 0) × (cells ≤ 4000000)) ⊎ (r ≡ 0 → ⊥) → (eqb r 0 && ltb 4000000 cells) ≡ false
+small_grid r cells (inl h) = rw (eq-eqb r 0 h.0, le-ltb 4000000 cells h.1) refl
+small_grid r cells (inr h) = rw (ne_eqb r 0 h) refl
 
 first_cells : (r cells : ℕ) → r ≡ 0 → (eqb r 0 && ltb 4000000 cells) ≡ false → cells ≤ 4000000
 first_cells zero cells h k = ltb-false _ _ k
@@ -108,16 +137,16 @@ framed radials r expected s p xdr q e =
 -- ---- the place of its data
 
 module _ (radials r bins : ℕ) (s : List ℕ) (p : ℕ) where
-  span_is : (e : Ended XdrRadial) → e ≡ walk (xdr_frame radials r (expected_of false bins)) s p
+  span_is : (e : Ended XdrRadial) → e ≡ walk (xdr_frame radials r (expected_of (Some bins))) s p
       → placed (onward e (λ xdr q. passed (record { centre = xdr.centre; size = xdr.bins * 4 }) q)) ≡ placed (walk (xdr_radial_span radials bins r) s p)
   unfolding xdr_radial_span walk
   span_is e h =
       ap (λ x. placed (onward x (λ xdr q. passed (record { centre = xdr.centre; size = xdr.bins * 4 }) q))) h
-      ∙ ap placed (sym (walk_then (λ xdr. give (record { centre = xdr.centre; size = xdr.bins * 4 })) (xdr_frame radials r (expected_of false bins)) s p))
+      ∙ ap placed (sym (walk_then (λ xdr. give (record { centre = xdr.centre; size = xdr.bins * 4 })) (xdr_frame radials r (expected_of (Some bins))) s p))
 
-  pub span_whole : {a : Float} {n q : ℕ} → passed (record { centre = a; bins = n }) q ≡ walk (xdr_frame radials r (expected_of false bins)) s p
+  pub span_whole : {a : Float} {n q : ℕ} → passed (record { centre = a; bins = n }) q ≡ walk (xdr_frame radials r (expected_of (Some bins))) s p
       → accepted (record { centre = a; from = q; to = q + n * 4 }) ≡ placed (walk (xdr_radial_span radials bins r) s p)
   span_whole e = span_is _ e
 
-  pub span_halted : {x : Refusal} {q : ℕ} → halted x q ≡ walk (xdr_frame radials r (expected_of false bins)) s p → refused x ≡ placed (walk (xdr_radial_span radials bins r) s p)
+  pub span_halted : {x : Refusal} {q : ℕ} → halted x q ≡ walk (xdr_frame radials r (expected_of (Some bins))) s p → refused x ≡ placed (walk (xdr_radial_span radials bins r) s p)
   span_halted e = span_is _ e

@@ -1,39 +1,24 @@
 -- What the entries answer, and what they leave in lent buffers.
-use Rattle.std.specs.Prelude.{◌≡◌, ℕ, zero, suc, ◌*◌, Bool, true, false, not, List, [], ◌∷◌, ◌++◌, map, length, replicate, nat_lt, slice_index, Float}
+use Rattle.std.specs.Prelude.{◌≡◌, ℕ, zero, suc, ◌*◌, Bool, true, false, not, List, [], ◌∷◌, ◌++◌, map, length, replicate, nat_lt, slice_index, Option, Some, None, Float}
+use Rattle.std.specs.Prelude as Std
 use Rattle.std.specs.Float.Ieee.{le}
 use Rattle.wire.specs.Float.{f32}
-use Rattle.wire.specs.Refusal.{kind, float, buffer, refusal_of}
-use Rattle.wire.specs.Result.{Result, accepted, refused, refuse, then, lent}
+use Rattle.wire.specs.Refusal.{kind, float, buffer}
+use Rattle.wire.specs.Result.{Result, accepted, answer, refuse, then, lent}
 use Rattle.wire.specs.Reading.{run, gaps, Given}
 use Rattle.wire.specs.declared.error.Buffer.TheVariants as Buffer
+use Rattle.wire.specs.declared.error.Level3DecodeError.{Level3DecodeError}
+use Rattle.symbology.specs.declared.radials.PacketHeader.{PacketHeader}
 use Rattle.symbology.specs.Symbology.{Sweep, Header, symbology}
 use Rattle.symbology.specs.declared.figures.Figures.{Figures}
 use Rattle.symbology.specs.declared.figures.Packet.{Packet}
 use Rattle.symbology.specs.declared.figures.Packet.TheVariants.{Packet16, PacketAf1f, Packet28}
 use Rattle.symbology.specs.declared.figures.Terms.{Terms}
 use Rattle.symbology.specs.declared.figures.Packets.{Packets}
-use Rattle.symbology.specs.declared.figures.Room.{Room}
-use Rattle.symbology.specs.declared.figures.FiguresRead.{FiguresRead}
-use Rattle.symbology.specs.declared.trailing.Check.{Check}
-use Rattle.symbology.specs.declared.symbology.CodeRead.{CodeRead}
-use Rattle.symbology.specs.declared.radials.HeaderRead.{HeaderRead}
 
-abbrev pub check_of : Check → Result (Unit {0})
-check_of Check.Passed = accepted tt
-check_of (Check.Refused e) = refused (refusal_of e)
-
-abbrev pub figures_of : FiguresRead → Result Figures
-figures_of (FiguresRead.Value f) = accepted f
-figures_of (FiguresRead.Refused e) = refused (refusal_of e)
-
--- the answers of the block header and of the packet header
-abbrev pub code_read_of : CodeRead → Result ℕ
-code_read_of (CodeRead.Value code) = accepted code
-code_read_of (CodeRead.Refused e) = refused (refusal_of e)
-
-abbrev pub header_of : HeaderRead → Result Header
-header_of (HeaderRead.Value h) = accepted (record { radials = h.n_radials; bins = h.n_bins; range = h.range_scale })
-header_of (HeaderRead.Refused e) = refused (refusal_of e)
+-- the answer of the packet header
+abbrev pub header_of : Std.Result PacketHeader Level3DecodeError → Result Header
+header_of r = then (answer r) λ h. accepted (record { radials = h.n_radials; bins = h.n_bins; range = h.range_scale })
 
 -- rows one after the other
 unfoldable pub joined : List (List ℕ) → List ℕ
@@ -62,9 +47,9 @@ asked Packets.Af1fAlone Packet28 = false
 asked (Packets.Radial step) Packet28 = false
 asked Packets.Any Packet28 = true
 
-unfoldable pub too_few : Room → ℕ → Bool
-too_few Room.Unasked n = false
-too_few (Room.Places k) n = nat_lt k n
+abbrev pub too_few : Option ℕ → ℕ → Bool
+too_few None n = false
+too_few (Some k) n = nat_lt k n
 
 -- 36, of the first buffer that is too short: azimuths (`na` places), codes (`nc`), physical values
 unfoldable pub room_in : Terms → ℕ → ℕ → ℕ → ℕ → Result (Unit {0})
@@ -96,7 +81,7 @@ decode_for t body na nc =
 
 -- every packet, and no more than the two buffers
 abbrev pub any_terms : Terms
-any_terms = record { packets = Packets.Any; physical = Room.Unasked }
+any_terms = record { packets = Packets.Any; physical = None }
 
 unfoldable pub decode_of : List ℕ → ℕ → ℕ → Result Picture
 decode_of = decode_for any_terms
@@ -105,8 +90,8 @@ abbrev pub figures_in : Result Picture → Result Figures
 figures_in r = then r λ p. accepted p.figures
 
 -- A reading d of a body, by the lengths of two lent buffers that held az and cs: the answer, and what they hold after it.
-pub record Decodes (d : ℕ → ℕ → Result Picture) (az az' : List Float) (cs cs' : List ℕ) (answer : FiguresRead) : Type 0 where
-  pub answered : figures_of answer ≡ figures_in (d (length az) (length cs))
+pub record Decodes (d : ℕ → ℕ → Result Picture) (az az' : List Float) (cs cs' : List ℕ) (result : Std.Result Figures Level3DecodeError) : Type 0 where
+  pub answered : answer result ≡ figures_in (d (length az) (length cs))
   pub azimuths : az' ≡ lent (d (length az) (length cs)) (λ p. p.azimuths) az
   pub codes : cs' ≡ lent (d (length az) (length cs)) (λ p. p.codes) cs
 
@@ -162,8 +147,8 @@ abbrev pub gap_figures_in : Result GapPicture → Result Figures
 gap_figures_in r = then r λ p. accepted p.picture.figures
 
 -- A reading d with gaps, by the lengths of three lent buffers that held az, cs and ms: the answer, and what they hold after it.
-pub record DecodesWithGaps (d : ℕ → ℕ → ℕ → Result GapPicture) (az az' : List Float) (cs cs' ms ms' : List ℕ) (answer : FiguresRead) : Type 0 where
-  pub answered : figures_of answer ≡ gap_figures_in (d (length az) (length cs) (length ms))
+pub record DecodesWithGaps (d : ℕ → ℕ → ℕ → Result GapPicture) (az az' : List Float) (cs cs' ms ms' : List ℕ) (result : Std.Result Figures Level3DecodeError) : Type 0 where
+  pub answered : answer result ≡ gap_figures_in (d (length az) (length cs) (length ms))
   pub azimuths : az' ≡ lent (d (length az) (length cs) (length ms)) (λ p. p.picture.azimuths) az
   pub codes : cs' ≡ lent (d (length az) (length cs) (length ms)) (λ p. p.picture.codes) cs
   pub marks : ms' ≡ lent (d (length az) (length cs) (length ms)) (λ p. p.marks) ms

@@ -1,7 +1,7 @@
 -- A place in the cells of an AF1F row. No public contract cites this file.
-use Rattle.std.specs.Prelude.{ℕ, List, ◌++◌, drop, replicate}
+use Rattle.std.specs.Prelude.{ℕ, List, ◌++◌, replicate}
 use Rattle.symbology.specs.Rows.{cells}
 
--- so many cells of a colour, then those of the runs from a place on
-unfoldable pub ahead : List ℕ → ℕ → ℕ → ℕ → List ℕ
-ahead s at left colour = replicate left colour ++ cells (drop at s)
+-- so many cells of a colour, then those of the runs
+abbrev pub ahead : ℕ → ℕ → List ℕ → List ℕ
+ahead left colour runs = replicate left colour ++ cells runs

@@ -1,6 +1,6 @@
 -- Two walks over the radials side by side, as the code goes. No public contract cites this file.
-use Rattle.std.specs.Prelude.{ℕ, Bool, true, cond, not, ◌&&◌, List, [], ◌==◌, Float}
-use Rattle.wire.specs.Refusal.{kind, refusal_of}
+use Rattle.std.specs.Prelude.{ℕ, Bool, true, false, not, List, [], Option, Some, None, Float}
+use Rattle.wire.specs.Refusal.{kind}
 use Rattle.wire.specs.Result.{Result, accepted, refused, refuse, then}
 use Rattle.wire.specs.Reading.{Given, run}
 use Rattle.wire.specs.SameFloat.{same_float}
@@ -9,7 +9,7 @@ use Rattle.symbology.specs.Merge.{same_floats, disagree, agreed, merge_rows}
 use Rattle.symbology.specs.Answers.{GapPicture, picture_with}
 use Rattle.symbology.specs.declared.figures.Packet.{Packet}
 use Rattle.symbology.specs.declared.figures.Figures.{Figures}
-use Rattle.symbology.specs.declared.pairs.Turn.{Turn}
+use Rattle.symbology.specs.declared.pairs.Side.{Side}
 
 -- a radial that stands at p, and all radials from p on, read with gaps
 abbrev pub radial_at : Packet → ℕ → ℕ → ℕ → List ℕ → ℕ → Result (Given Float)
@@ -22,16 +22,6 @@ walk_at packet radials bins s p = run (in_mode true (any_walk packet radials bin
 abbrev pub walk_by : Figures → List ℕ → ℕ → Result (Given (List Float))
 walk_by f s p = walk_at f.packet f.n_radials f.n_bins s p
 
--- the places after both radials, and whether their rows disagree
-pub record Side : Type 0 where
-  pub first : ℕ
-  pub second : ℕ
-  pub disagrees : Bool
-
-abbrev pub turn_of : Turn → Result Side
-turn_of (Turn.Next i j d) = accepted (record { first = i; second = j; disagrees = d })
-turn_of (Turn.Stop e) = refused (refusal_of e)
-
 -- one radial of both: 43 where the centres differ
 unfoldable pub turned : Result (Given Float) → Result (Given Float) → Result Side
 turned (refused x) q = refused x
@@ -40,9 +30,11 @@ turned (accepted p) (accepted q) =
     refuse (not (same_float p.value q.value)) (kind 43 [])
     (accepted (record { first = p.next; second = q.next; disagrees = disagree (first_row p.rows) (first_row q.rows) }))
 
--- the lowest radial so far whose rows disagree, or `none`
-unfoldable pub note_of : ℕ → ℕ → ℕ → Bool → ℕ
-note_of noted none r disagrees = cond (disagrees && noted == none) r noted
+-- the lowest radial so far whose rows disagree, where there is one
+abbrev pub note_of : Option ℕ → ℕ → Bool → Option ℕ
+note_of noted r false = noted
+note_of None r true = Some r
+note_of (Some n) r true = Some n
 
 -- 43 of the azimuths, then 44
 unfoldable pub judged : Result (Given (List Float)) → Result (Given (List Float)) → Result (Unit {0})

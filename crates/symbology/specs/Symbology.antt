@@ -13,6 +13,8 @@ use Rattle.symbology.specs.declared.figures.Packet.{Packet}
 use Rattle.symbology.specs.declared.figures.Packet.TheVariants.{Packet16, PacketAf1f, Packet28}
 use Rattle.symbology.specs.declared.figures.Geometry.TheVariants.{RangeScale, Gates}
 use Rattle.symbology.specs.declared.figures.Figures.{Figures}
+use Rattle.symbology.specs.declared.generic.XdrRadial.{XdrRadial}
+use Rattle.symbology.specs.declared.generic.Gates28.{Gates28}
 
 -- What an accepted body gives beside its rows.
 pub record Sweep : Type 0 where
@@ -148,11 +150,6 @@ product_block = do
   counted parameter
   give tt
 
--- a radial's centre in degrees, and its number of bins
-pub record XdrRadial : Type 0 where
-  pub centre : Float
-  pub bins : ℕ
-
 -- a radial's frame: all six items, then 29, 31, 32, 33 (first radial only). `expected` is radial 0's number of bins, for the others
 unfoldable pub xdr_frame : ℕ → ℕ → (ℕ → ℕ) → Flat XdrRadial
 xdr_frame radials r expected = do
@@ -197,12 +194,6 @@ xdr_radials radials gate_width first_gate = do
     };
     azimuths = first.centre ∷ azimuths;
   })
-
--- a component up to its radials: how many, and the gate figures
-pub record Gates28 : Type 0 where
-  pub radials : ℕ
-  pub gate_width : Float
-  pub first_gate : Float
 
 -- 27, 29, 30; the type 1 is "radial"
 unfoldable pub component_head : Flat Gates28

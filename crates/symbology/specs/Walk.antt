@@ -1,31 +1,29 @@
 -- The walk over the radials as the code goes, one for all packets; it is the reading's (proofs/Bodies.antt `walk_is`, XdrRadials.antt
 -- `radials_are`). No public contract cites this file.
-use Rattle.std.specs.Prelude.{◌≡◌, ℕ, zero, suc, ◌+◌, ◌-◌, ◌*◌, ◌/◌, ◌%◌, ◌≤◌, Bool, true, false, cond, not, ◌&&◌, List, [], ◌∷◌, map, length, ℤ, pos, ◌==◌, int_le, nat_lt, slice_set, Float}
+use Rattle.std.specs.Prelude.{◌≡◌, ℕ, zero, suc, ◌+◌, ◌-◌, ◌*◌, ◌/◌, ◌%◌, ◌≤◌, Bool, true, false, cond, not, ◌&&◌, List, [], ◌∷◌, map, length, ℤ, pos, ◌==◌, int_le, nat_lt, slice_set, Option, Some, None, Float}
+use Rattle.std.specs.Prelude as Std
+use Rattle.std.specs.Option.{unwrap_or}
 use Rattle.std.proofs.Math.Seq.{slice}
 use Rattle.wire.specs.Refusal.{refusal_of, kind, nat, whole}
+use Rattle.wire.specs.declared.error.Level3DecodeError.{Level3DecodeError}
 use Rattle.wire.specs.Bytes.{u16_at}
 use Rattle.wire.specs.Result.{Result, accepted, refused, then}
-use Rattle.wire.specs.Reading.{Read, Flat, gaps, marked, give, remaining, ◌>>=◌, ◌>>◌, radial_data, refuse_if, run, walk, Given, Ended, passed, halted, onward, reached}
-use Rattle.xdr.specs.Xdr.{pointer, elements}
+use Rattle.wire.specs.Reading.{Read, Flat, gaps, marked, give, remaining, ◌>>=◌, ◌>>◌, radial_data, refuse_if, run, walk, Given, Ended, passed, halted}
+use Rattle.xdr.specs.Xdr.{pointer, at_least0, elements}
 use Rattle.symbology.specs.Centre.{centre}
 use Rattle.symbology.specs.Rows.{row_of, codes_of, FullRow}
 use Rattle.symbology.specs.Answers.{joined, shown, mark_of, admit, passing, decode_for, gap_decode_for, Decodes, DecodesWithGaps}
 use Rattle.symbology.specs.Merge.{usable}
 use Rattle.symbology.specs.Places.{Enough}
-use Rattle.symbology.specs.Symbology.{Sweep, XdrRadial, covered, frame, xdr_frame, Gates28, component, only}
+use Rattle.symbology.specs.Symbology.{Sweep, covered, frame, xdr_frame, component, only}
 use Rattle.symbology.specs.declared.figures.Packet.{Packet}
 use Rattle.symbology.specs.declared.figures.Packet.TheVariants.{Packet16, PacketAf1f, Packet28}
-use Rattle.xdr.specs.declared.xdr.Step.{Step}
-use Rattle.symbology.specs.declared.generic.FrameStep.{FrameStep}
-use Rattle.symbology.specs.declared.generic.GatesRead.{GatesRead}
-use Rattle.symbology.specs.declared.spans.PlanRead.{PlanRead}
+use Rattle.symbology.specs.declared.spans.Place.{Place}
+use Rattle.symbology.specs.declared.spans.Plan.{Plan}
 use Rattle.symbology.specs.declared.spans.BodyPlan.{BodyPlan}
+use Rattle.symbology.specs.declared.spans.Room.{Room}
 use Rattle.symbology.specs.declared.figures.Figures.{Figures}
 use Rattle.symbology.specs.declared.figures.Terms.{Terms}
-use Rattle.symbology.specs.declared.figures.FiguresRead.{FiguresRead}
-use Rattle.symbology.specs.declared.spans.SpanRead.{SpanRead}
-use Rattle.symbology.specs.declared.spans.Ask.{Ask}
-use Rattle.symbology.specs.declared.spans.Next.{Next}
 
 -- ---- with gaps and without
 
@@ -77,9 +75,9 @@ put_mark true marks r mark = slice_set marks r mark
 put_mark false marks r mark = marks
 
 -- the reading of a body on terms, with gaps or without
-unfoldable pub DecodesIn : Bool → Terms → List ℕ → List Float → List Float → List ℕ → List ℕ → List ℕ → List ℕ → FiguresRead → Type 0
-DecodesIn true t body az az' cs cs' ms ms' answer = DecodesWithGaps (gap_decode_for t body) az az' cs cs' ms ms' answer
-DecodesIn false t body az az' cs cs' ms ms' answer = Decodes (decode_for t body) az az' cs cs' answer
+unfoldable pub DecodesIn : Bool → Terms → List ℕ → List Float → List Float → List ℕ → List ℕ → List ℕ → List ℕ → Std.Result Figures Level3DecodeError → Type 0
+DecodesIn true t body az az' cs cs' ms ms' r = DecodesWithGaps (gap_decode_for t body) az az' cs cs' ms ms' r
+DecodesIn false t body az az' cs cs' ms ms' r = Decodes (decode_for t body) az az' cs cs' r
 
 -- ---- the radials
 
@@ -89,18 +87,17 @@ pub record Span : Type 0 where
   pub size : ℕ
 
 -- the bins that packet 28 expects: the first reading of radial 0 takes its own
-unfoldable pub expected_of : Bool → ℕ → ℕ → ℕ
-expected_of true bins own = own
-expected_of false bins own = bins
+abbrev pub expected_of : Option ℕ → ℕ → ℕ
+expected_of = unwrap_or
 
--- 29, 31, 32, 33 at a position, of a radial with its own number of bins as it was read, that number from 0 up, the one expected, the
--- number of integers declared, and the cells of the grid
-unfoldable pub frame_tested : ℕ → ℕ → ℤ → ℕ → ℕ → ℕ → ℕ → ℕ → Ended (Unit {0})
-frame_tested radials r own bins expected declared cells p =
+-- 29, 31, 32, 33 at a position, of a radial with its own number of bins as it was read, the one expected, and the number of integers
+-- declared
+unfoldable pub frame_tested : ℕ → ℕ → ℤ → Option ℕ → ℕ → ℕ → Ended (Unit {0})
+frame_tested radials r own expected declared p =
     cond (int_le own (pos 0)) (halted (kind 29 (nat radials ∷ whole own ∷ [])) p)
-    (cond (not (bins == expected)) (halted (kind 31 (nat r ∷ nat bins ∷ nat expected ∷ [])) p)
-    (cond (not (declared == bins)) (halted (kind 32 (nat r ∷ nat declared ∷ nat bins ∷ [])) p)
-    (cond (r == 0 && nat_lt 4000000 cells) (halted (kind 33 (nat radials ∷ nat bins ∷ nat cells ∷ nat 4000000 ∷ [])) p)
+    (cond (not (at_least0 own == expected_of expected (at_least0 own))) (halted (kind 31 (nat r ∷ nat (at_least0 own) ∷ nat (expected_of expected (at_least0 own)) ∷ [])) p)
+    (cond (not (declared == at_least0 own)) (halted (kind 32 (nat r ∷ nat declared ∷ nat (at_least0 own) ∷ [])) p)
+    (cond (r == 0 && nat_lt 4000000 (radials * at_least0 own)) (halted (kind 33 (nat radials ∷ nat (at_least0 own) ∷ nat (radials * at_least0 own) ∷ nat 4000000 ∷ [])) p)
     (passed tt p))))
 
 unfoldable pub beam_span : Packet → ℕ → ℕ → ℕ → Flat Span
@@ -110,7 +107,7 @@ beam_span packet radials bins r = do
 
 unfoldable pub xdr_radial_span : ℕ → ℕ → ℕ → Flat Span
 xdr_radial_span radials bins r = do
-  xdr ← xdr_frame radials r (expected_of false bins)
+  xdr ← xdr_frame radials r (expected_of (Some bins))
   give (record { centre = xdr.centre; size = xdr.bins * 4 })
 
 unfoldable pub any_frame : Packet → ℕ → ℕ → ℕ → Flat Span
@@ -135,43 +132,22 @@ any_walk packet radials bins (suc n) r = do
 -- ---- what the answers say
 
 -- the centre and the place of the data
-pub record Place : Type 0 where
-  pub centre : Float
-  pub from : ℕ
-  pub to : ℕ
-
-abbrev pub place_of : SpanRead → Result Place
-place_of (SpanRead.Value a f t) = accepted (record { centre = a; from = f; to = t })
-place_of (SpanRead.Refused e) = refused (refusal_of e)
-
 abbrev pub placed : Ended Span → Result Place
 placed (passed sp q) = accepted (record { centre = sp.centre; from = q; to = q + sp.size })
 placed (halted x q) = refused x
 
 -- the position after a reading
-abbrev pub next_of : Next → Result ℕ
-next_of (Next.At p) = accepted p
-next_of (Next.Refused e) = refused (refusal_of e)
-
 abbrev pub position : {A : Type 0} → Ended A → Result ℕ
 position (passed a q) = accepted q
 position (halted x q) = refused x
 
-abbrev pub ends_at : Next → ℕ → Bool
-ends_at (Next.At q) p = q == p
-ends_at (Next.Refused e) p = false
+abbrev pub ends_at : Std.Result ℕ Level3DecodeError → ℕ → Bool
+ends_at (Std.Ok q) p = q == p
+ends_at (Std.Err e) p = false
 
 -- the position after the walk from radial r on, which starts at p
 abbrev pub walk_from : Bool → Packet → ℕ → ℕ → List ℕ → ℕ → ℕ → Result ℕ
 walk_from gapped packet radials bins s r p = position (walk (in_mode gapped (any_walk packet radials bins (radials - r) r)) s p)
-
--- a frame's step
-abbrev pub xdr_radial_then : Float → ℕ → Step → Ended XdrRadial
-xdr_radial_then centre bins (Step.At p) = passed (record { centre = centre; bins = bins }) p
-xdr_radial_then centre bins (Step.Refused e p) = halted (refusal_of e) p
-
-abbrev pub xdr_radial_of : FrameStep → Ended XdrRadial
-xdr_radial_of x = xdr_radial_then x.centre x.bins x.then
 
 -- the first bin, which packet 16 alone has
 abbrev pub first_of : Packet → List ℕ → ℕ
@@ -203,15 +179,6 @@ centre_in r = then r λ g. accepted (g.value, g.next)
 
 -- ---- packet 28's payload
 
--- a component's head
-abbrev pub gates_of : GatesRead → Result (Gates28 × ℕ)
-gates_of (GatesRead.Value n w f p) = accepted (record { radials = n; gate_width = w; first_gate = f }, p)
-gates_of (GatesRead.Refused e) = refused (refusal_of e)
-
--- a step with its figures
-abbrev pub gates_then : ℕ → Float → Float → Ended (Unit {0}) → Result (Gates28 × ℕ)
-gates_then n w f e = reached (onward e (λ _ p. passed (record { radials = n; gate_width = w; first_gate = f }) p))
-
 -- what follows the list: 28, 35
 abbrev pub only_whole : List Sweep → Read (Unit {0}) Sweep
 only_whole components = only components >>= λ sweep. remaining >>= λ rest. refuse_if (not (rest == 0)) (kind 35 (nat rest ∷ [])) >> give sweep
@@ -237,9 +204,9 @@ pub record Planned (gapped : Bool) (figures : Figures) (at next : ℕ) (s : List
   pub next_is : radials.next ≡ next
   pub whole : R ≡ sweep_from figures (accepted radials)
 
-unfoldable pub Plans : Bool → PlanRead → List ℕ → Result (Given Sweep) → Type 0
-Plans gapped (PlanRead.Value f at next) s R = Planned gapped f at next s R
-Plans gapped (PlanRead.Refused e) s R = refused (refusal_of e) ≡ R
+abbrev pub Plans : Bool → Std.Result Plan Level3DecodeError → List ℕ → Result (Given Sweep) → Type 0
+Plans gapped (Std.Ok plan) s R = Planned gapped plan.figures plan.at plan.next s R
+Plans gapped (Std.Err e) s R = refused (refusal_of e) ≡ R
 
 -- The same of a body, whose radials stand in a part of it.
 pub record Plotted (gapped : Bool) (figures : Figures) (from to at : ℕ) (body : List ℕ) (R : Result (Given Sweep)) : Type 0 where
@@ -252,24 +219,18 @@ pub record Plotted (gapped : Bool) (figures : Figures) (from to at : ℕ) (body 
   pub radials_are : run (in_mode gapped (any_walk figures.packet figures.n_radials figures.n_bins figures.n_radials 0)) (slice from to body) at ≡ accepted radials
   pub whole : R ≡ accepted (record { value = record { figures = figures; azimuths = radials.value }; next = end; rows = radials.rows })
 
-unfoldable pub Plots : Bool → BodyPlan → List ℕ → Result (Given Sweep) → Type 0
-Plots gapped (BodyPlan.Value f from to at) body R = Plotted gapped f from to at body R
-Plots gapped (BodyPlan.Refused e) body R = refused (refusal_of e) ≡ R
+abbrev pub Plots : Bool → Std.Result BodyPlan Level3DecodeError → List ℕ → Result (Given Sweep) → Type 0
+Plots gapped (Std.Ok plan) body R = Plotted gapped plan.figures plan.from plan.to plan.at body R
+Plots gapped (Std.Err e) body R = refused (refusal_of e) ≡ R
 
-abbrev pub in_part : ℕ → ℕ → PlanRead → BodyPlan
-in_part from to (PlanRead.Value f at next) = BodyPlan.Value f from to at
-in_part from to (PlanRead.Refused e) = BodyPlan.Refused e
+abbrev pub in_part : ℕ → ℕ → Plan → BodyPlan
+in_part from to plan = record { figures = plan.figures; from = from; to = to; at = plan.at }
 
 -- a body's reading on terms, with buffers of na and nc places: its own refusals, then 10, 9, 36
 abbrev pub on_terms : Terms → ℕ → ℕ → Result (Given Sweep) → Result (Given Sweep)
 on_terms t na nc reading = passing (admit t na nc) reading
 
--- what is asked of a body's figures
-abbrev pub asked_for : Terms → Ask → Figures → Result (Unit {0})
-asked_for t Ask.Use = usable t
-asked_for t (Ask.Room na nc) = admit t na nc
-
--- the figures of a plan
-abbrev pub planned : BodyPlan → FiguresRead
-planned (BodyPlan.Value f from to at) = FiguresRead.Value f
-planned (BodyPlan.Refused e) = FiguresRead.Refused e
+-- what is asked of a body's figures: with buffers of so many places, or without any
+abbrev pub asked_for : Terms → Option Room → Figures → Result (Unit {0})
+asked_for t None = usable t
+asked_for t (Some room) = admit t room.azimuths room.codes

@@ -20,10 +20,8 @@ fn doubled(n: u64, times: u64) -> u64
     ensures bound { result < 360 }
 {
     let mut rest = n;
-    let mut left = times;
-    while 0 < left {
+    for _ in 0..times {
         rest = rest * 2 % 360;
-        left -= 1;
     }
     rest
 }
@@ -56,7 +54,7 @@ fn signed(negative: bool, size: f64) -> f64
 fn turned(x: f64) -> f64
     ensures { result ≡ rem binary64 x (f64 360 1) }
 {
-    if x != x {
+    if x.is_nan() {
         return x;
     }
     let bits = f64::to_bits(x);

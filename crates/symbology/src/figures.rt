@@ -1,7 +1,5 @@
 // The figures of an accepted body, and what a caller asks of one before anything is written.
-use wire::error::Level3DecodeError;
-
-#[derive(Clone, Copy)]
+#[derive(Clone, Copy, PartialEq, Eq)]
 pub enum Packet {
     Packet16,
     PacketAf1f,
@@ -26,12 +24,6 @@ pub struct Figures {
     pub geometry: Geometry,
 }
 
-#[derive(Clone, Copy)]
-pub enum FiguresRead {
-    Value(Figures),
-    Refused(Level3DecodeError),
-}
-
 // The schemes as document 01 groups them by the packets that they work on.
 #[derive(Clone, Copy)]
 pub enum Packets {
@@ -43,15 +35,9 @@ pub enum Packets {
     Any,
 }
 
-// What a caller asks of a body: the packets that it can use, and room for the physical values.
+// What a caller asks of a body: the packets that it can use, and, where values are written, room for so many.
 #[derive(Clone, Copy)]
 pub struct Terms {
     pub packets: Packets,
-    pub physical: Room,
-}
-
-#[derive(Clone, Copy)]
-pub enum Room {
-    Unasked,
-    Places(usize),
+    pub physical: Option<usize>,
 }

@@ -2,6 +2,7 @@
 #![tactic(auto)]
 
 mod alike;
+pub mod cells;
 mod centre;
 mod components;
 pub mod figures;

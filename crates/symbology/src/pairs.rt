@@ -1,30 +1,26 @@
 // The radials of two bodies side by side, whose frames the check accepted: 43 of their centres and 44 of their rows; then the rows that
 // both make, written.
 ghost use Rattle.std.specs.Prelude.{◌≡◌, ◌*◌, ◌≤◌, map, length};
-ghost use Rattle.wire.specs.Result.{accepted, lent};
+ghost use Rattle.wire.specs.Result.{accepted, answer, lent};
 ghost use Rattle.wire.specs.Reading.{marked};
 ghost use Rattle.symbology.specs.Rows.{row_of};
 ghost use Rattle.symbology.specs.Places.{Enough};
-ghost use Rattle.symbology.specs.Answers.{check_of, joined, mark_of, shown};
+ghost use Rattle.symbology.specs.Answers.{joined, mark_of, shown};
 ghost use Rattle.symbology.specs.Walk.{Accepted, centre_in, row_in};
 ghost use Rattle.symbology.specs.Merge.{disagree, either};
-ghost use Rattle.symbology.specs.Pairs.{radial_at, walk_at, turn_of, turned, note_of, judged, next_in, both_rows};
+ghost use Rattle.symbology.specs.Pairs.{radial_at, walk_at, turned, note_of, judged, next_in, both_rows};
 
 use crate::figures::Packet;
-use crate::spans::SpanRead;
-use crate::trailing::Check;
 use wire::error::Level3DecodeError;
 
 // ---- the check
 
+// The places after a radial of each, and whether their rows disagree.
 #[derive(Clone, Copy)]
-pub enum Turn {
-    Next {
-        first: usize,
-        second: usize,
-        disagrees: bool,
-    },
-    Stop(Level3DecodeError),
+pub struct Side {
+    pub first: usize,
+    pub second: usize,
+    pub disagrees: bool,
 }
 
 // Whole in both, with unequal codes.
@@ -33,10 +29,10 @@ fn is_disagreed(packet: Packet, n_bins: usize, r: usize, a: &[u8], b: &[u8]) -> 
     ensures { result ≡ disagree (marked (row_of packet n_bins r a.now)) (marked (row_of packet n_bins r b.now)) }
 {
     match crate::rows::check_row(packet, n_bins, r, a, false) {
-        Check::Refused(_) => false,
-        Check::Passed => match crate::rows::check_row(packet, n_bins, r, b, false) {
-            Check::Refused(_) => false,
-            Check::Passed => !crate::alike::same_row(packet, n_bins, a, b),
+        Err(_) => false,
+        Ok(()) => match crate::rows::check_row(packet, n_bins, r, b, false) {
+            Err(_) => false,
+            Ok(()) => !crate::alike::same_row(packet, n_bins, a, b),
         },
     }
 }
@@ -51,45 +47,29 @@ fn compare_radial(
     n_radials: usize,
     n_bins: usize,
     r: usize,
-) -> Turn
+) -> Result<Side, Level3DecodeError>
     requires { (n_radials ≤ 100000) × Accepted (radial_at packet n_radials n_bins r s.now i)
         × Accepted (radial_at packet n_radials n_bins r t.now j) }
-    ensures { turn_of result ≡ turned (radial_at packet n_radials n_bins r s.now i)
+    ensures { answer result ≡ turned (radial_at packet n_radials n_bins r s.now i)
         (radial_at packet n_radials n_bins r t.now j) }
 {
-    match crate::walks::frame_span(packet, s, i, n_radials, n_bins, r) {
-        // Can't be, here and below: the check accepted this radial's frame.
-        SpanRead::Refused(error) => Turn::Stop(error),
-        SpanRead::Value { centre, from, to } => {
-            match crate::walks::frame_span(packet, t, j, n_radials, n_bins, r) {
-                SpanRead::Refused(error) => Turn::Stop(error),
-                SpanRead::Value {
-                    centre: centre2,
-                    from: from2,
-                    to: to2,
-                } => {
-                    if !wire::float::same_f64(centre, centre2) {
-                        return Turn::Stop(Level3DecodeError::DifferentSweeps);
-                    }
-                    Turn::Next {
-                        first: to,
-                        second: to2,
-                        disagrees: is_disagreed(packet, n_bins, r, &s[from..to], &t[from2..to2]),
-                    }
-                }
-            }
-        }
+    let p = crate::walks::frame_span(packet, s, i, n_radials, n_bins, r)?;
+    let q = crate::walks::frame_span(packet, t, j, n_radials, n_bins, r)?;
+    if !wire::float::same_f64(p.centre, q.centre) {
+        return Err(Level3DecodeError::DifferentSweeps);
     }
+    Ok(Side {
+        first: p.to,
+        second: q.to,
+        disagrees: is_disagreed(packet, n_bins, r, &s[p.from..p.to], &t[q.from..q.to]),
+    })
 }
 
-// The lowest radial so far whose rows disagree; `none` says that there is none.
-fn note(noted: usize, none: usize, r: usize, disagrees: bool) -> usize
-    ensures { result ≡ note_of noted none r disagrees }
+// The lowest radial so far whose rows disagree.
+fn note(noted: Option<usize>, r: usize, disagrees: bool) -> Option<usize>
+    ensures { result ≡ note_of noted r disagrees }
 {
-    if !disagrees {
-        return noted;
-    }
-    if noted == none { r } else { noted }
+    if disagrees { noted.or(Some(r)) } else { noted }
 }
 
 // All radials.
@@ -101,38 +81,25 @@ pub fn compare_radials(
     start_t: usize,
     n_radials: usize,
     n_bins: usize,
-) -> Check
+) -> Result<(), Level3DecodeError>
     requires { (n_radials ≤ 100000) × Accepted (walk_at packet n_radials n_bins s.now start_s)
         × Accepted (walk_at packet n_radials n_bins t.now start_t) }
-    ensures { check_of result ≡ judged (walk_at packet n_radials n_bins s.now start_s)
+    ensures { answer result ≡ judged (walk_at packet n_radials n_bins s.now start_s)
         (walk_at packet n_radials n_bins t.now start_t) }
 {
     let mut i = start_s;
     let mut j = start_t;
-    let mut noted = n_radials;
-    let mut r: usize = 0;
-    while r < n_radials {
-        let next = compare_radial(packet, s, i, t, j, n_radials, n_bins, r);
-        match next {
-            Turn::Next {
-                first,
-                second,
-                disagrees,
-            } => {
-                i = first;
-                j = second;
-                noted = note(noted, n_radials, r, disagrees);
-            }
-            Turn::Stop(error) => {
-                return Check::Refused(error);
-            }
-        }
-        r += 1;
+    let mut noted = None;
+    for r in 0..n_radials {
+        let side = compare_radial(packet, s, i, t, j, n_radials, n_bins, r)?;
+        i = side.first;
+        j = side.second;
+        noted = note(noted, r, side.disagrees);
     }
-    if noted != n_radials {
-        return Check::Refused(Level3DecodeError::RowsDisagree { radial: noted });
+    match noted {
+        Some(radial) => Err(Level3DecodeError::RowsDisagree { radial }),
+        None => Ok(()),
     }
-    Check::Passed
 }
 
 // ---- the writing
@@ -184,36 +151,15 @@ fn merge_radial(
         (row_in (radial_at packet n_radials (length row.old) r t.now j))) }
 {
     let n_bins = row.len();
-    match crate::walks::frame_span(packet, s, i, n_radials, n_bins, r) {
-        SpanRead::Refused(_) => Merged {
-            centre: 0.0,
-            first: i,
-            second: j,
-            mark: 0,
-        },
-        SpanRead::Value { centre, from, to } => {
-            match crate::walks::frame_span(packet, t, j, n_radials, n_bins, r) {
-                SpanRead::Refused(_) => Merged {
-                    centre: 0.0,
-                    first: i,
-                    second: j,
-                    mark: 0,
-                },
-                SpanRead::Value {
-                    centre: _,
-                    from: from2,
-                    to: to2,
-                } => {
-                    let mark = merge_row(packet, r, &s[from..to], &t[from2..to2], row);
-                    Merged {
-                        centre,
-                        first: to,
-                        second: to2,
-                        mark,
-                    }
-                }
-            }
-        }
+    // The check accepted both frames.
+    let p = crate::walks::frame_span(packet, s, i, n_radials, n_bins, r).unwrap();
+    let q = crate::walks::frame_span(packet, t, j, n_radials, n_bins, r).unwrap();
+    let mark = merge_row(packet, r, &s[p.from..p.to], &t[q.from..q.to], row);
+    Merged {
+        centre: p.centre,
+        first: p.to,
+        second: q.to,
+        mark,
     }
 }
 

@@ -1,13 +1,14 @@
 // Packets 16 and AF1F: the packet header, and a radial's six bytes.
 ghost use Rattle.std.specs.Prelude.{◌≡◌, ◌*◌, ◌<◌, ◌≤◌, ◌||◌, length, ◌==◌, ◌≢◌, nat_lt};
 ghost use Rattle.wire.specs.Bytes.{u16_at};
+ghost use Rattle.wire.specs.Result.{answer};
 ghost use Rattle.wire.specs.Reading.{walk, outcome};
 ghost use Rattle.symbology.specs.Symbology.{covered, count_wrong, over_body, counts, packet_header};
 ghost use Rattle.symbology.specs.Answers.{header_of};
-ghost use Rattle.symbology.specs.Walk.{beam_span, place_of, placed, first_of};
+ghost use Rattle.symbology.specs.Walk.{beam_span, placed, first_of};
 
 use crate::figures::Packet;
-use crate::spans::SpanRead;
+use crate::spans::Place;
 use wire::error::Level3DecodeError;
 
 // The most cells that a picture may have, of any packet.
@@ -18,12 +19,6 @@ pub struct PacketHeader {
     pub n_radials: usize,
     pub n_bins: usize,
     pub range_scale: u16,
-}
-
-#[derive(Clone, Copy)]
-pub enum HeaderRead {
-    Value(PacketHeader),
-    Refused(Level3DecodeError),
 }
 
 // How many bytes a radial's count covers.
@@ -71,12 +66,12 @@ pub fn beam_span(
     n_radials: usize,
     n_bins: usize,
     r: usize,
-) -> SpanRead
-    ensures { place_of result ≡ placed (walk (beam_span packet n_radials n_bins r) body.now at) }
+) -> Result<Place, Level3DecodeError>
+    ensures { answer result ≡ placed (walk (beam_span packet n_radials n_bins r) body.now at) }
 {
     let have = wire::bytes::remaining(body.len(), at);
     if have < 6 {
-        return SpanRead::Refused(Level3DecodeError::TruncatedAtRadial {
+        return Err(Level3DecodeError::TruncatedAtRadial {
             radial: r,
             n_radials,
         });
@@ -85,24 +80,24 @@ pub fn beam_span(
     let start = wire::bytes::u16_at(body, at + 2);
     let width = wire::bytes::u16_at(body, at + 4);
     if is_width_wrong(width) {
-        return SpanRead::Refused(Level3DecodeError::ImplausibleRadialWidth {
+        return Err(Level3DecodeError::ImplausibleRadialWidth {
             radial: r,
             width_deg: crate::centre::width_deg(width),
         });
     }
     if is_count_wrong(packet, n_bins, count, have - 6) {
-        return SpanRead::Refused(Level3DecodeError::RadialByteCountMismatch {
+        return Err(Level3DecodeError::RadialByteCountMismatch {
             radial: r,
             n_bytes: count as usize,
             n_bins,
         });
     }
     let from = at + 6;
-    SpanRead::Value {
+    Ok(Place {
         centre: crate::centre::azimuth_centre_deg(start, width),
         from,
         to: from + covered_by(packet, count),
-    }
+    })
 }
 
 // Bytes 18-19, of packet 16 alone.
@@ -144,7 +139,11 @@ fn is_over_body(packet: Packet, n_radials: usize, n_bins: usize, room: usize) ->
 }
 
 // The counts from byte 20 on: 15, 16; 17 for a first bin that is not 0; of packet 16 also 18. No radials is no refusal: a clear scan.
-pub fn read_counts(body: &[u8], packet: Packet, first: usize) -> HeaderRead
+pub fn read_counts(
+    body: &[u8],
+    packet: Packet,
+    first: usize,
+) -> Result<PacketHeader, Level3DecodeError>
     ensures { header_of result ≡ outcome (walk (counts packet first) body.now 20) }
 {
     let n_bins = count_at(body, 20);
@@ -153,10 +152,10 @@ pub fn read_counts(body: &[u8], packet: Packet, first: usize) -> HeaderRead
     let cells = product(n_radials, n_bins);
     let is_empty = n_bins == 0;
     if is_empty {
-        return HeaderRead::Refused(Level3DecodeError::EmptySweep { n_radials, n_bins });
+        return Err(Level3DecodeError::EmptySweep { n_radials, n_bins });
     }
     if MAX_GATE_COUNT < cells {
-        return HeaderRead::Refused(Level3DecodeError::GridTooLarge {
+        return Err(Level3DecodeError::GridTooLarge {
             n_radials,
             n_bins,
             cells,
@@ -164,18 +163,18 @@ pub fn read_counts(body: &[u8], packet: Packet, first: usize) -> HeaderRead
         });
     }
     if first != 0 {
-        return HeaderRead::Refused(Level3DecodeError::NonZeroFirstBin(first));
+        return Err(Level3DecodeError::NonZeroFirstBin(first));
     }
     let available = wire::bytes::remaining(body.len(), 30);
     if is_over_body(packet, n_radials, n_bins, available) {
-        return HeaderRead::Refused(Level3DecodeError::AllocationExceedsBody {
+        return Err(Level3DecodeError::AllocationExceedsBody {
             n_radials,
             n_bins,
             needed: product(n_radials, 6 + n_bins),
             available,
         });
     }
-    HeaderRead::Value(PacketHeader {
+    Ok(PacketHeader {
         n_radials,
         n_bins,
         range_scale,
@@ -183,13 +182,16 @@ pub fn read_counts(body: &[u8], packet: Packet, first: usize) -> HeaderRead
 }
 
 // The packet header from byte 18 on: 12, and the counts.
-pub(crate) fn read_packet_header(body: &[u8], packet: Packet) -> HeaderRead
+pub(crate) fn read_packet_header(
+    body: &[u8],
+    packet: Packet,
+) -> Result<PacketHeader, Level3DecodeError>
     requires { (18 ≤ length body.now) × (packet ≢ Packet.Packet28) }
     ensures { header_of result ≡ outcome (walk (packet_header packet) body.now 18) }
 {
     let len = body.len();
     if len < 30 {
-        return HeaderRead::Refused(Level3DecodeError::SymbologyTruncated { len });
+        return Err(Level3DecodeError::SymbologyTruncated { len });
     }
     read_counts(body, packet, first_bin(packet, body))
 }

@@ -1,13 +1,13 @@
 // The walks over the radials, for all packets: one that checks, and one that writes once all is checked.
 ghost use Rattle.std.specs.Prelude.{◌≡◌, ◌*◌, ◌<◌, ◌≤◌, true, length};
-ghost use Rattle.wire.specs.Result.{accepted, then, lent};
+ghost use Rattle.wire.specs.Result.{accepted, answer, then, lent};
 ghost use Rattle.wire.specs.Reading.{walk, run};
-ghost use Rattle.symbology.specs.Walk.{in_mode, cells_of, codes_in, marks_in, mark_in, put_mark, any_frame, any_radial, any_walk, place_of, placed};
-ghost use Rattle.symbology.specs.Walk.{next_of, position, ends_at, walk_from, Accepted, row_in, centre_in, sweep_from, Plans};
+ghost use Rattle.symbology.specs.Walk.{in_mode, cells_of, codes_in, marks_in, mark_in, put_mark, any_frame, any_radial, any_walk, placed};
+ghost use Rattle.symbology.specs.Walk.{position, ends_at, walk_from, Accepted, row_in, centre_in, sweep_from, Plans};
 
 use crate::figures::{Figures, Packet};
-use crate::spans::{Next, PlanRead, SpanRead};
-use crate::trailing::Check;
+use crate::spans::{Place, Plan};
+use wire::error::Level3DecodeError;
 
 // A radial's centre and the place of its data.
 pub fn frame_span(
@@ -17,9 +17,9 @@ pub fn frame_span(
     n_radials: usize,
     n_bins: usize,
     r: usize,
-) -> SpanRead
+) -> Result<Place, Level3DecodeError>
     requires { n_radials ≤ 100000 }
-    ensures { place_of result ≡ placed (walk (any_frame packet n_radials n_bins r) s.now at) }
+    ensures { answer result ≡ placed (walk (any_frame packet n_radials n_bins r) s.now at) }
 {
     match packet {
         Packet::Packet16 => crate::radials::beam_span(
@@ -51,30 +51,19 @@ fn check_radial(
     n_bins: usize,
     r: usize,
     gaps: bool,
-) -> Next
+) -> Result<usize, Level3DecodeError>
     requires { n_radials ≤ 100000 }
-    ensures { next_of result ≡ position (walk (in_mode gaps (any_radial packet n_radials n_bins r)) s.now at) }
+    ensures { answer result ≡ position (walk (in_mode gaps (any_radial packet n_radials n_bins r)) s.now at) }
 {
-    match frame_span(packet, s, at, n_radials, n_bins, r) {
-        SpanRead::Refused(error) => Next::Refused(error),
-        SpanRead::Value {
-            centre: _,
-            from,
-            to,
-        } => match crate::rows::check_row(packet, n_bins, r, &s[from..to], gaps) {
-            Check::Passed => Next::At(to),
-            Check::Refused(error) => Next::Refused(error),
-        },
-    }
+    let place = frame_span(packet, s, at, n_radials, n_bins, r)?;
+    crate::rows::check_row(packet, n_bins, r, &s[place.from..place.to], gaps)?;
+    Ok(place.to)
 }
 
-fn ends_at(next: Next, place: usize) -> bool
+fn ends_at(next: Result<usize, Level3DecodeError>, place: usize) -> bool
     ensures { result ≡ ends_at next place }
 {
-    match next {
-        Next::At(end) => end == place,
-        Next::Refused(_) => false,
-    }
+    next.is_ok_and(|end| end == place)
 }
 
 // What a stretch of radials came to: how many are checked by then, where the last of them starts, and where it ends or why it is refused.
@@ -82,7 +71,7 @@ fn ends_at(next: Next, place: usize) -> bool
 pub struct Stretch {
     pub checked: usize,
     pub last: usize,
-    pub next: Next,
+    pub next: Result<usize, Level3DecodeError>,
 }
 
 // Radials from radial `first` on, up to one that is refused or that is not `size` bytes long, that one too. The place of the next is
@@ -99,7 +88,7 @@ fn check_stretch(
     gaps: bool,
 ) -> Stretch
     requires { (n_radials ≤ 100000) × (first < n_radials) }
-    ensures q_value { then (next_of result.next) (λ q. walk_from gaps packet n_radials n_bins s.now result.checked q) ≡
+    ensures q_value { then (answer result.next) (λ q. walk_from gaps packet n_radials n_bins s.now result.checked q) ≡
         walk_from gaps packet n_radials n_bins s.now first start }
     ensures first_lt_checked { (first < result.checked) × (result.checked ≤ n_radials) }
 {
@@ -121,7 +110,7 @@ fn check_stretch(
     Stretch {
         checked: r,
         last: at,
-        next: Next::At(at),
+        next: Ok(at),
     }
 }
 
@@ -133,41 +122,37 @@ pub fn check_radials(
     n_radials: usize,
     n_bins: usize,
     gaps: bool,
-) -> Next
+) -> Result<usize, Level3DecodeError>
     requires { n_radials ≤ 100000 }
-    ensures { next_of result ≡ position (walk (in_mode gaps (any_walk packet n_radials n_bins n_radials 0)) s.now start) }
+    ensures { answer result ≡ position (walk (in_mode gaps (any_walk packet n_radials n_bins n_radials 0)) s.now start) }
 {
     let mut at = start;
     let mut size: usize = 0;
     let mut r: usize = 0;
     while r < n_radials {
         let x = check_stretch(packet, s, at, size, n_radials, n_bins, r, gaps);
-        let next = x.next;
-        match next {
-            Next::At(end) => {
-                size = std::num::wrapping_sub_usize(end, x.last);
-                at = end;
-            }
-            Next::Refused(error) => {
-                return Next::Refused(error);
-            }
-        }
+        let end = x.next?;
+        size = std::num::wrapping_sub_usize(end, x.last);
+        at = end;
         r = x.checked;
     }
-    Next::At(at)
+    Ok(at)
 }
 
 // All radials with their figures.
-pub fn plan_radials(s: &[u8], at: usize, figures: Figures, gaps: bool) -> PlanRead
+pub fn plan_radials(
+    s: &[u8],
+    at: usize,
+    figures: Figures,
+    gaps: bool,
+) -> Result<Plan, Level3DecodeError>
     requires { (figures.n_radials ≤ 100000) × (figures.n_radials * figures.n_bins ≤ 4000000) }
     ensures { Plans gaps result s.now (sweep_from figures
         (run (in_mode gaps (any_walk figures.packet figures.n_radials figures.n_bins figures.n_radials 0)) s.now at)) }
 {
     let packet = figures.packet;
-    match check_radials(packet, s, at, figures.n_radials, figures.n_bins, gaps) {
-        Next::Refused(error) => PlanRead::Refused(error),
-        Next::At(next) => PlanRead::Value { figures, at, next },
-    }
+    let next = check_radials(packet, s, at, figures.n_radials, figures.n_bins, gaps)?;
+    Ok(Plan { figures, at, next })
 }
 
 // A radial that was written: its centre, the position after it, and its mark.
@@ -197,21 +182,13 @@ fn write_radial(
         (row_in (run (in_mode gaps (any_radial packet n_radials (length row.old) r)) s.now at)) }
 {
     let n_bins = row.len();
-    match frame_span(packet, s, at, n_radials, n_bins, r) {
-        SpanRead::Value { centre, from, to } => {
-            let mark = crate::rows::write_cells(packet, r, &s[from..to], row, gaps);
-            Written {
-                centre,
-                next: to,
-                mark,
-            }
-        }
-        // Can't be: the check accepted this radial.
-        SpanRead::Refused(_) => Written {
-            centre: 0.0,
-            next: at,
-            mark: 0,
-        },
+    // The check accepted this radial.
+    let place = frame_span(packet, s, at, n_radials, n_bins, r).unwrap();
+    let mark = crate::rows::write_cells(packet, r, &s[place.from..place.to], row, gaps);
+    Written {
+        centre: place.centre,
+        next: place.to,
+        mark,
     }
 }
 

@@ -8,12 +8,12 @@ use mathlib.Core.Path.{◌≡◌, refl, sym, ap, ◌∙◌}
 use lib.Dec.{ltb}
 use lib.ListN.{length}
 use borrow.Author.Tests.{le-leb, ltb-false, eq-eqb}
-use Rattle.wire.specs.Result.{accepted}
+use Rattle.wire.specs.Result.{accepted, answer}
 use Rattle.wire.proofs.Codes.{climbing}
 use Rattle.wire.proofs.Every.{all_of}
 use Rattle.wire.proofs.Results.{one_value, passed}
 use Rattle.tariff.specs.declared.charge.Charge.{Charge}
-use Rattle.tariff.specs.Tariff.{limit, last_of, is_rate, well_formed, band_products, due, charge_of, charge_read}
+use Rattle.tariff.specs.Tariff.{limit, last_of, is_rate, well_formed, band_products, due, charge_of}
 use Rattle.tariff.specs.Charges.{Tariff, Charged, Charges}
 use Rattle.tariff.proofs.Dues.{is_tariff, parts_whole, due_grows, due_bound, one_of, first_of_lem, malformed, too_large, charged}
 
@@ -83,5 +83,5 @@ charges =
       taken = λ total ends rates t l. (_, sym (charged total ends rates (sym (formed ends rates t)) refl l refl));
       charged = is_charged;
       never_less = λ s t ends rates q r e f h c d p o.
-          never_less s t ends rates c d (sym e ∙ ap charge_read p) (sym f ∙ ap charge_read o) h;
+          never_less s t ends rates c d (sym e ∙ ap answer p) (sym f ∙ ap answer o) h;
     }

@@ -1,14 +1,13 @@
 -- What is due for a total: the parts of its bands, their products, and the loop that adds them. Assumes nothing.
-use Prim.Native.Nat.{ℕ, zero, suc, ◌+◌, ◌*◌, ◌-◌, ◌/◌, ◌%◌, ◌≤◌, ◌<◌, suc-le-suc}
+use Prim.Native.Nat.{ℕ, zero, suc, ◌+◌, ◌*◌, ◌-◌, ◌/◌, ◌%◌, ◌≤◌, ◌<◌, min, suc-le-suc}
 use native.Mathlib.Nat.{add-mul, mul-le-mul_left, mul-le-mul_right, sub-zero}
-use native.Mathlib.Numerals.{add-one}
 use native.Mathlib.Omega.{arith}
 use mathlib.Core.Bool.{Bool, true, false, ◌&&◌}
 use mathlib.Core.List.{List, [], ◌∷◌}
+use mathlib.Core.Logic.{◌⊎◌, inl, inr}
 use mathlib.Core.Path.{◌≡◌, refl, sym, ◌∙◌}
 use lib.Dec.{leb, eqb}
-use lib.ListN.{length, get_or, take, drop, drop_of_length-le}
-use lib.Seq.{drop-cons}
+use lib.ListN.{length, get_or, take}
 use borrow.Author.Tests.{leb-true, eqb-true, lt-ltb, le-ltb}
 use Rattle.wire.specs.Products.{climbs, Ascending}
 use Rattle.wire.specs.Refusal.{kind}
@@ -106,41 +105,39 @@ first_of_lem [] (suc k) = omega arith
 first_of_lem (x ∷ xs) zero = omega arith
 first_of_lem (x ∷ xs) (suc k) = omega (arith, first_of_lem xs k)
 
--- ---- the loop of `sum_of`: what is added, and what is due above `from`, make the whole
+-- ---- the loop of `sum_of`: what is added, and what is due in the bands that are left, make the whole
 
-pub record Adding (total : ℕ) (ends rates : List ℕ) (added from i : ℕ) : Type 0 where
-  pub well : well_formed ends rates ≡ true
-  pub small : total ≤ limit
-  pub left : added + sum (products (parts total from (drop i ends)) (drop i rates)) ≡ due total ends rates
+pub record Adding (total : ℕ) (ends rates : List ℕ) (added from whole : ℕ) : Type 0 where
+  pub equal : length ends ≡ length rates
+  pub left : added + sum (products (parts total from ends) rates) ≡ whole
+  pub few : whole ≤ 1099511627776 * 65535
 
-pub adding_first : {total : ℕ} {ends rates : List ℕ} → well_formed ends rates ≡ true → total ≤ limit → Adding total ends rates 0 0 0
+pub adding_first : {total : ℕ} {ends rates : List ℕ} → well_formed ends rates ≡ true → total ≤ limit → Adding total ends rates 0 0 (due total ends rates)
 unfolding due
-adding_first w l = record { well = w; small = l; left = omega arith }
+adding_first {total} {ends} {rates} w l = record { equal = (is_tariff ends rates w).equal; left = omega arith; few = due_bound total ends rates w l }
 
-module _ {total : ℕ} {ends rates : List ℕ} {added from i : ℕ} (inv : Adding total ends rates added from i) where
-  pub adding_end : length ends ≤ i → added ≡ due total ends rates
+-- no band is left
+pub adding_end : {total added from whole : ℕ} {ends rates : List ℕ} → Adding total ends rates added from whole → (length ends ≡ 0) ⊎ (length rates ≡ 0) → added ≡ whole
+unfolding parts products sum
+adding_end {ends = []} a h = omega (arith, a.left)
+adding_end {ends = e ∷ ends} {rates = rates} a (inl h) = absurd (omega arith)
+adding_end {ends = e ∷ ends} {rates = rates} a (inr h) = absurd (omega (arith, a.equal))
+
+-- one band more
+module _ {total added from whole to rate p : ℕ} {ends rates ends' rates' : List ℕ} (a : Adding total ends rates added from whole)
+    (one : (ends ≡ to ∷ ends') × (rates ≡ rate ∷ rates')) (is : p ≡ min total to - from) where
+  band : added + (p * rate + sum (products (parts total to ends') rates')) ≡ whole
   unfolding parts products sum
-  adding_end h = let e = rw (drop_of_length-le ends h) at inv.left in omega arith
+  band = rw is (rw (one.0, one.1) at a.left)
 
-  -- one band more
-  band : i < length ends
-      → added + (part total from (get_or ends i 0) * get_or rates i 0
-      + sum (products (parts total (get_or ends i 0) (drop (suc i) ends)) (drop (suc i) rates))) ≡ due total ends rates
-  unfolding parts products sum
-  band h =
-      let h' : i < length rates = omega (arith, (is_tariff ends rates inv.well).equal) in
-      rw (drop-cons ends i 0 h, drop-cons rates i 0 h') at inv.left
+  pub product_fits : p * rate ≤ 1099511627776 * 65535
+  product_fits = omega (arith, band, a.few)
 
-  module _ (h : i < length ends) {p : ℕ} (is : p ≡ part total from (get_or ends i 0)) where
-    pub product_fits : p * get_or rates i 0 ≤ 1099511627776 * 65535
-    product_fits = rw is (omega (arith, band h, due_bound total ends rates inv.well inv.small))
+  pub sum_fits : added + p * rate ≤ 1099511627776 * 65535
+  sum_fits = omega (arith, band, a.few)
 
-    module _ {x : ℕ} (e : x ≡ p * get_or rates i 0) where
-      pub sum_fits : added + x ≤ 1099511627776 * 65535
-      sum_fits = rw (e, is) (omega (arith, band h, due_bound total ends rates inv.well inv.small))
-
-      pub adding_next : Adding total ends rates (added + x) (get_or ends i 0) (i + 1)
-      adding_next = record { well = inv.well; small = inv.small; left = rw (e, is, add-one) (omega (arith, band h)) }
+  pub adding_next : Adding total ends' rates' (added + p * rate) to whole
+  adding_next = record { equal = omega (arith, rw (one.0, one.1) at a.equal); left = omega (arith, band); few = a.few }
 
 -- ---- the answers of `rain_charge`
 

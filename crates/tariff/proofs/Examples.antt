@@ -5,7 +5,6 @@ use mathlib.Core.Path.{◌≡◌, refl}
 use Rattle.wire.specs.Products.{climbs}
 use Rattle.wire.specs.Refusal.{kind}
 use Rattle.wire.specs.Result.{Result, accepted, refused}
-use Rattle.wire.specs.Text.{all}
 use Rattle.tariff.specs.declared.charge.Charge.{Charge}
 use Rattle.tariff.specs.Tariff.{limit, well_formed, parts, products, sum, due, charge_of}
 
@@ -36,7 +35,7 @@ pub record Examples : Type 0 where
   pub near_end : charge_of 0 (1099511627775 ∷ []) (1 ∷ []) ≡ refused (kind 40 [])
 
 pub examples : Examples
-unfolding charge_of well_formed climbs all due parts products sum
+unfolding charge_of well_formed climbs due parts products sum
 examples =
     record {
       bands = refl;

@@ -2,10 +2,11 @@
 use Rattle.std.specs.Prelude.{ℕ, ◌+◌, ◌*◌, ◌^◌, ◌≤◌, ◌<◌, List, [], ◌≡◌, length, get_or, take}
 use Rattle.wire.specs.Products.{Ascending}
 use Rattle.wire.specs.Refusal.{kind}
-use Rattle.wire.specs.Result.{accepted, refused}
+use Rattle.std.specs.Prelude as Std
+use Rattle.wire.specs.declared.error.Level3DecodeError.{Level3DecodeError}
+use Rattle.wire.specs.Result.{accepted, refused, answer}
 use Rattle.tariff.specs.declared.charge.Charge.{Charge}
-use Rattle.tariff.specs.declared.charge.ChargeRead.{ChargeRead}
-use Rattle.tariff.specs.Tariff.{last_of, parts, sum, band_products, charge_of, charge_read}
+use Rattle.tariff.specs.Tariff.{last_of, parts, sum, band_products, charge_of}
 
 -- A tariff: 1 to 8 bands, two lists of equal length, ends that ascend strictly, the last at least 2 ^ 40, rates of at most 65,535.
 pub record Tariff (ends rates : List ℕ) : Type 0 where
@@ -33,5 +34,5 @@ pub record Charges : Type 0 where
   pub taken : (total : ℕ) (ends rates : List ℕ) → Tariff ends rates → total ≤ 2 ^ 40 → (c : Charge) × (charge_of total ends rates ≡ accepted c)
   pub charged : (total : ℕ) (ends rates : List ℕ) (c : Charge) → charge_of total ends rates ≡ accepted c → Charged total ends rates c
   -- a larger total is never charged less: any two calls of `rain_charge` with one tariff
-  pub never_less : (s t : ℕ) (ends rates : List ℕ) (q r : ChargeRead) → charge_read q ≡ charge_of s ends rates → charge_read r ≡ charge_of t ends rates
-      → s ≤ t → (c d : Charge) → q ≡ ChargeRead.Value c → r ≡ ChargeRead.Value d → c.charge ≤ d.charge
+  pub never_less : (s t : ℕ) (ends rates : List ℕ) (q r : Std.Result Charge Level3DecodeError) → answer q ≡ charge_of s ends rates → answer r ≡ charge_of t ends rates
+      → s ≤ t → (c d : Charge) → q ≡ Std.Ok c → r ≡ Std.Ok d → c.charge ≤ d.charge

@@ -2,11 +2,10 @@
 -- per 1,000 units of total.
 use Rattle.std.specs.Prelude.{ℕ, ◌+◌, ◌*◌, ◌-◌, ◌/◌, ◌%◌, min, Bool, not, ◌&&◌, List, [], ◌∷◌, eqb, leb, ltb, length, get_or}
 use Rattle.wire.specs.Products.{climbs}
-use Rattle.wire.specs.Refusal.{kind, refusal_of}
-use Rattle.wire.specs.Result.{Result, accepted, refused, refuse}
+use Rattle.wire.specs.Refusal.{kind}
+use Rattle.wire.specs.Result.{Result, accepted, refuse}
 use Rattle.wire.specs.Text.{all}
 use Rattle.tariff.specs.declared.charge.Charge.{Charge}
-use Rattle.tariff.specs.declared.charge.ChargeRead.{ChargeRead}
 
 -- the largest total that is charged, 2 ^ 40
 abbrev pub limit : ℕ
@@ -56,8 +55,3 @@ charge_of total ends rates =
     refuse (not (well_formed ends rates)) (kind 40 [])
     (refuse (ltb limit total) (kind 41 [])
     (accepted (record { charge = due total ends rates / 1000; remainder = due total ends rates % 1000 })))
-
--- what the answer says
-abbrev pub charge_read : ChargeRead → Result Charge
-charge_read (ChargeRead.Value c) = accepted c
-charge_read (ChargeRead.Refused e) = refused (refusal_of e)

@@ -6,12 +6,12 @@ use mathlib.Core.List.{List, [], ◌∷◌}
 use mathlib.Core.Path.{◌≡◌, refl, ap, ◌∙◌}
 use mathlib.Core.Bool.{Bool, true, false, ◌&&◌}
 use lib.ListN.{length, get_or}
-use lib.Dec.{T, ltb}
+use lib.Dec.{ltb}
 use lib.IntN.{ℤ, pos, negsuc, nat_abs}
-use lib.Signed.{lt_z, non_neg}
 use mir.Syntax.{w16}
-use mir.Val.{Fits, SFits}
+use mir.Val.{SFits}
 use borrow.Author.Tests.{ltb-true, lt-ltb}
+use Rattle.std.specs.Int.{FitsUnsignedBits}
 use Rattle.wire.specs.Products.{codes, known, Ascending, climbs}
 use Rattle.wire.specs.Text.{member}
 
@@ -54,27 +54,14 @@ codes_ascending = ascends codes refl
 
 -- ---- the signed code
 
-negative_unknown : (z : ℤ) → lt_z z (pos 0) ≡ true → false ≡ known z
+-- a code that is a halfword without a sign is looked up
+pub looked_up : (z : ℤ) (n : ℕ) → FitsUnsignedBits 16 z → n ≡ nat_abs z → member n codes ≡ known z
 unfolding known
-negative_unknown (pos n) t = absurd (omega (arith, ltb-true n 0 t))
-negative_unknown (negsuc n) t = refl
+looked_up (pos m) n f e = ap (λ k. member k codes) e
+looked_up (negsuc m) n f e = absurd f
 
-code_is : (z : ℤ) → lt_z z (pos 0) ≡ false → member (nat_abs z) codes ≡ known z
+-- and no other code is known
+pub not_looked_up : (z : ℤ) → SFits w16 z → (FitsUnsignedBits 16 z → ⊥) → false ≡ known z
 unfolding known
-code_is (pos n) t = refl
-code_is (negsuc n) t = let z : ◌≡◌ {A = ℕ} 0 1 = cc in absurd (omega arith)
-
-code_fits : (z : ℤ) → SFits w16 z → lt_z z (pos 0) ≡ false → T (non_neg z) × Fits w16 (nat_abs z)
-code_fits (pos n) f t = (tt, record { fits = omega (arith, f.sfits) })
-code_fits (negsuc n) f t = let z : ◌≡◌ {A = ℕ} 0 1 = cc in absurd (omega arith)
-
--- y is the machine's reading of z
-module _ {y z : ℤ} (q : y ≡ z) where
-  pub below_zero : lt_z y (pos 0) ≡ true → false ≡ known z
-  below_zero t = negative_unknown z (rw q at t)
-
-  pub cast_code : SFits w16 z → lt_z y (pos 0) ≡ false → T (non_neg y) × Fits w16 (nat_abs y)
-  cast_code f t = code_fits y (rw (← q) at f) t
-
-  pub known_code : lt_z y (pos 0) ≡ false → member (nat_abs y) codes ≡ known z
-  known_code t = ap (λ x. member (nat_abs x) codes) q ∙ code_is z (rw q at t)
+not_looked_up (pos n) f h = absurd (h (omega (arith, f.sfits)))
+not_looked_up (negsuc n) f h = refl

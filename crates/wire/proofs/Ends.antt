@@ -1,4 +1,4 @@
--- The ends of a list: what leads, and a walk from the end. Assumes nothing.
+-- The ends of a list: what leads, and what is left once the last is trimmed. Assumes nothing.
 use Prim.Native.Nat.{ℕ, suc, ◌-◌, ◌≤◌, ◌<◌}
 use native.Mathlib.Omega.{arith}
 use mathlib.Core.List.{List, [], ◌∷◌, ◌++◌}
@@ -60,31 +60,19 @@ module _ (p : ℕ → Bool) where
   pub trim_within : (s : List ℕ) → length (trim_end p s) ≤ length s
   trim_within s = omega (arith, ap length (trim_front_lem s), length-take (length (trim_end p s)) s)
 
--- a walk from the end: the first n say what the whole says
-pub record Back (p : ℕ → Bool) (s : List ℕ) (n : ℕ) : Type 0 where
-  pub within : n ≤ length s
-  pub left : trim_end p (take n s) ≡ trim_end p s
-
 at_last : (s : List ℕ) (n : ℕ) → 0 < n → n ≤ length s → take n s ≡ take (n - 1) s ++ (get_or s (n - 1) 0 ∷ [])
 at_last s n z h =
     let e : n ≡ suc (n - 1) = omega arith in
     ap (λ k. take k s) e ∙ take-suc s (n - 1) 0 (omega arith)
 
-module _ {p : ℕ → Bool} {s : List ℕ} where
-  pub back_first : Back p s (length s)
-  back_first = record { within = omega arith; left = ap (trim_end p) (take-length s) }
+whole : (s : List ℕ) → 0 < length s → take (length s - 1) s ++ (get_or s (length s - 1) 0 ∷ []) ≡ s
+whole s z = sym (at_last s (length s) z (omega arith)) ∙ take-length s
 
-  pub back_next : {n : ℕ} → Back p s n → 0 < n → p (get_or s (n - 1) 0) ≡ true → Back p s (n - 1)
-  back_next b z e =
-      record { within = omega (arith, b.within); left = sym (ap (trim_end p) (at_last _ _ z b.within) ∙ trim_more p _ _ e) ∙ b.left }
+module _ (p : ℕ → Bool) (s : List ℕ) (filled : 0 < length s) where
+  -- a last element that passes the test is trimmed
+  pub trim_last : p (get_or s (length s - 1) 0) ≡ true → trim_end p (take (length s - 1) s) ≡ trim_end p s
+  trim_last e = sym (trim_more p (take (length s - 1) s) _ e) ∙ ap (trim_end p) (whole s filled)
 
-  pub back_stop : {n : ℕ} → Back p s n → 0 < n → p (get_or s (n - 1) 0) ≡ false → n ≡ length (trim_end p s)
-  back_stop {n} b z e =
-      sym (length-take-le n s b.within)
-      ∙ ap length (sym (ap (trim_end p) (at_last _ _ z b.within) ∙ trim_stop p (take (n - 1) s) _ e ∙ sym (at_last _ _ z b.within)) ∙ b.left)
-
-  pub back_end : {n : ℕ} → Back p s n → n ≤ 0 → n ≡ length (trim_end p s)
-  unfolding trim_end
-  back_end {n} b z =
-      let e : n ≡ 0 = omega arith in
-      e ∙ ap length (sym (ap (λ k. trim_end p (take k s)) e) ∙ b.left)
+  -- and one that does not ends what is left
+  pub trim_done : p (get_or s (length s - 1) 0) ≡ false → trim_end p s ≡ s
+  trim_done e = ap (trim_end p) (sym (whole s filled)) ∙ trim_stop p (take (length s - 1) s) _ e ∙ whole s filled

@@ -1,11 +1,11 @@
 -- The test of equality says what the logic's own equality is, and two patterns are equal exactly if the floats are. Assumes nothing.
 use Prim.Native.Nat.{ℕ, ◌*◌}
 use native.Mathlib.Omega.{arith}
-use mathlib.Core.Bool.{Bool, true, false, ◌&&◌, beq}
+use mathlib.Core.Bool.{Bool, true, false, ◌&&◌}
 use mathlib.Core.Path.{◌≡◌, refl, sym, ap, ◌∙◌}
 use lib.Dec.{T, eqb}
 use lib.IntN.{ℤ, pos, negsuc}
-use lib.Ieee.{Float, nan, inf, fin, Format, fits, is_nan, ne, eq, to_bits, of_bits, up, down}
+use lib.Ieee.{Float, nan, inf, fin, Format, fits, is_nan, to_bits, of_bits}
 use lib.Ieee.Bits.{of_bits-to_bits}
 use borrow.Author.Tests.{eq-eqb, eqb-true, eqb-false}
 use Rattle.wire.proofs.Patterns.{is_nan_lem}
@@ -77,17 +77,7 @@ module _ (f : Format) (a b : Float) (fa : T (fits f a)) (fb : T (fits f b)) wher
           rw (← d) (sym (float_same a))
       by false e = sym (float_other a b (λ d. eqb-false _ _ e (ap (to_bits f) d)))
 
--- ---- what differs from itself is the NaN
-
-beq_self : (s : Bool) → beq s s ≡ true
-beq_self true = refl
-beq_self false = refl
-
-self : (x : Float) → ne x x ≡ is_nan x
-unfolding ne eq is_nan
-self nan = refl
-self (inf s) = rw (beq_self s) refl
-self (fin s m e) = rw (eq-eqb (m * up e * down e) _ refl, beq_self s) refl
+-- ---- a NaN
 
 nan_left : (x : Float) → is_nan x ≡ same_float nan x
 unfolding is_nan same_float
@@ -101,8 +91,8 @@ nan_right nan = refl
 nan_right (inf s) = refl
 nan_right (fin s m e) = refl
 
-pub nan_first : (a b : Float) → ne a a ≡ true → ne b b ≡ same_float a b
-nan_first a b h = let e : a ≡ nan = is_nan_lem a (sym (self a) ∙ h) in rw e (self b ∙ nan_left b)
+pub nan_first : (a b : Float) → is_nan a ≡ true → is_nan b ≡ same_float a b
+nan_first a b h = let e : a ≡ nan = is_nan_lem a h in rw e (nan_left b)
 
-pub nan_second : (a b : Float) → ne a a ≡ false → ne b b ≡ true → false ≡ same_float a b
-nan_second a b h k = let e : b ≡ nan = is_nan_lem b (sym (self b) ∙ k) in rw e (sym h ∙ self a ∙ nan_right a)
+pub nan_second : (a b : Float) → is_nan a ≡ false → is_nan b ≡ true → false ≡ same_float a b
+nan_second a b h k = let e : b ≡ nan = is_nan_lem b k in rw e (sym h ∙ nan_right a)

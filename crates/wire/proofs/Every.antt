@@ -11,7 +11,6 @@ use Rattle.wire.specs.Text.{all, leading}
 module _ (p : ℕ → Bool) where
   -- where all pass, each does; one past the end counts 0
   pub all_at : (s : List ℕ) (k : ℕ) → p 0 ≡ true → all p s ≡ true → p (get_or s k 0) ≡ true
-  unfolding all
   all_at [] k z h = z
   all_at (x ∷ s) k z h = go (p x) refl k h (λ j e. all_at s j z e)
     where
@@ -22,13 +21,12 @@ module _ (p : ℕ → Bool) where
 
   -- where each passes, all do
   pub all_of : (s : List ℕ) → ((k : ℕ) → k < length s → p (get_or s k 0) ≡ true) → all p s ≡ true
-  unfolding all
   all_of [] h = refl
   all_of (x ∷ s) h = rw (h 0 (omega arith)) (all_of s (λ k l. h (suc k) (suc-le-suc l)))
 
   -- where not all pass, one is left after those that lead
   pub not_all : (s : List ℕ) → all p s ≡ false → leading p s < length s
-  unfolding all leading
+  unfolding leading
   not_all [] h = absurd (false≢true (sym h))
   not_all (x ∷ s) h = go (p x) (λ e. not_all s e) h
     where
@@ -39,7 +37,7 @@ module _ (p : ℕ → Bool) where
   -- the first that does not pass
   pub first_not : (s : List ℕ) (k : ℕ) → k < length s → ((j : ℕ) → j < k → p (get_or s j 0) ≡ true) → p (get_or s k 0) ≡ false
       → (leading p s ≡ k) × (all p s ≡ false)
-  unfolding all leading
+  unfolding leading
   first_not [] k h before e = absurd (not-suc-le-zero h)
   first_not (x ∷ s) zero h before e = (rw e, rw e)
   first_not (x ∷ s) (suc k) h before e =

@@ -5,18 +5,17 @@ use mathlib.Core.Bool.{true, false}
 use lib.ListN.{length}
 use lib.IntN.{pos, negsuc}
 use lib.Ieee.{nan, inf, neg, of_bits}
+use Rattle.std.specs.Prelude.{Some, None}
 use Rattle.wire.specs.Bytes.{u16_at, u32_at, i16_at, i32_at, signed, if_inside, read_u16, read_i32}
 use Rattle.wire.specs.Float.{f32, f32_at}
 use Rattle.wire.specs.Products.{codes, known}
 use Rattle.wire.specs.Text.{member}
-use Rattle.wire.specs.declared.bytes.U16Read.TheVariants as U16
-use Rattle.wire.specs.declared.bytes.I32Read.TheVariants as I32
 
 pub record Reads : Type 0 where
-  pub half : read_u16 (1 ∷ 2 ∷ 3 ∷ []) 1 ≡ U16.Value 515
-  pub past : read_u16 (1 ∷ 2 ∷ 3 ∷ []) 2 ≡ U16.Nothing
-  pub far_past : read_u16 [] 18446744073709551615 ≡ U16.Nothing
-  pub least : read_i32 (128 ∷ 0 ∷ 0 ∷ 0 ∷ []) 0 ≡ I32.Value (negsuc 2147483647)
+  pub half : read_u16 (1 ∷ 2 ∷ 3 ∷ []) 1 ≡ Some 515
+  pub past : read_u16 (1 ∷ 2 ∷ 3 ∷ []) 2 ≡ None
+  pub far_past : read_u16 [] 18446744073709551615 ≡ None
+  pub least : read_i32 (128 ∷ 0 ∷ 0 ∷ 0 ∷ []) 0 ≡ Some (negsuc 2147483647)
   pub minus_one : i16_at (255 ∷ 255 ∷ []) 0 ≡ negsuc 0
   pub af1f : i16_at (0xAF ∷ 0x1F ∷ []) 0 ≡ negsuc 20704
 

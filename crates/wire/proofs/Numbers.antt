@@ -3,11 +3,14 @@ use Prim.Native.Nat.{ℕ, suc, ◌+◌, ◌*◌, ◌-◌, ◌/◌, ◌%◌, ◌^
 use native.Mathlib.Nat.{div-add-mod'}
 use native.Mathlib.Omega.{arith}
 use mathlib.Core.List.{List}
-use mathlib.Core.Path.{◌≡◌, sym}
+use mathlib.Core.Path.{◌≡◌, refl, sym}
 use lib.ListN.{length, get_or, get_or-eq_default}
 use mir.Syntax.{Width}
 use mir.Val.{to_z, hbits, bits}
-use borrow.Author.Tests.{le-leb, lt-leb, lt-ltb, le-ltb}
+use mathlib.Core.Bool.{Bool, true, false, cond}
+use lib.Dec.{ltb}
+use lib.IntN.{pos, ◌-ℤ◌}
+use borrow.Author.Tests.{le-leb, lt-leb, lt-ltb}
 use Rattle.wire.specs.Bytes.{u16_at, u32_at, signed, if_inside}
 
 -- a byte past the end counts 0
@@ -37,13 +40,15 @@ module _ (s : List ℕ) (i : ℕ) (high : get_or s i 0 < 256) (low : get_or s (i
   unfolding u16_at
   half_small = omega arith
 
--- the complement of a complement, as the code takes it, is two's complement, at any width
-pub high : (w : Width) (half top n : ℕ) → 2 ^ hbits w ≡ half → 2 ^ bits w ≡ suc top → half + half ≡ suc top → half ≤ n → n < suc top
-    → to_z w (top - (top - n)) ≡ signed half n
+-- the machine's reading of the bits is two's complement, at any width
+pub twos : (w : Width) (half top n : ℕ) → 2 ^ hbits w ≡ half → 2 ^ bits w ≡ suc top → half + half ≡ suc top → n < suc top
+    → to_z w n ≡ signed half n
 unfolding signed
-high w half top n p q r h k =
-    let e : top - (top - n) ≡ n = omega arith in
-    rw (e, p, q, r) (simp (le-ltb n half h, lt-ltb n (suc top) k))
+twos w half top n p q r k = go (ltb n half) refl
+  where
+    go : (b : Bool) → ltb n half ≡ b → to_z w n ≡ cond b (pos n) (pos n -ℤ pos (half + half))
+    go true e = rw (p, q) (simp (e, lt-ltb n (suc top) k))
+    go false e = rw (p, q, r) (simp (e, lt-ltb n (suc top) k))
 
 -- a choice by `if_inside`, where r bytes are left: the n bytes are there, or are not
 pub is_in : {A : Type 0} (s : List ℕ) (i n r : ℕ) (a b : A) → 0 < n → r ≡ length s - i → n ≤ r → a ≡ if_inside s i n a b

@@ -2,13 +2,27 @@
 use Prim.Native.Nat.{ℕ}
 use native.Mathlib.Omega.{arith}
 use mathlib.Core.Bool.{Bool, true, false}
-use mathlib.Core.Path.{◌≡◌, refl, ap}
+use mathlib.Core.Path.{◌≡◌, refl, ap, ◌∙◌}
+use Rattle.std.specs.Prelude as Std
+use Rattle.std.specs.Prelude.{IsErrAnd}
+use Rattle.std.proofs.lemmas.Result.{err_from_is_err_and}
 use Rattle.wire.specs.Refusal.{Refusal}
-use Rattle.wire.specs.Result.{Result, accepted, refused, refuse, then}
+use Rattle.wire.specs.declared.error.Level3DecodeError.{Level3DecodeError}
+use Rattle.std.specs.Result.{result_and}
+use Rattle.wire.specs.Result.{Result, accepted, answer, refused, refuse, then}
 
 -- what follows an answer that is known by an equation
 pub then_by : {A B : Type 0} {r q : Result A} (f : A → Result B) → r ≡ q → then r f ≡ then q f
 then_by f e = ap (λ x. then x f) e
+
+-- what a `?` returns: the error that came
+pub returned : {T : Type 0} {r : Std.Result T Level3DecodeError} {e : Level3DecodeError} → IsErrAnd r (λ x. x ≡ e) → r ≡ Std.Err e
+returned {r = r} h = let p = err_from_is_err_and r h in p.1 ∙ ap Std.Err p.2
+
+-- the first refusal of two results
+pub both : {A B : Type 0} (r : Std.Result A Level3DecodeError) (q : Std.Result B Level3DecodeError) → answer (result_and r q) ≡ then (answer r) (λ _. answer q)
+both (Std.Ok a) q = refl
+both (Std.Err e) q = refl
 
 -- a refusal is no acceptance
 pub clash : {A B : Type 0} (a : A) (x : Refusal) → ◌≡◌ {A = Result A} (refused x) (accepted a) → B

@@ -1,12 +1,6 @@
 -- Big-endian numbers in a list of bytes (bytes.rs). A byte past the end counts 0; where that is a refusal, the caller's
 -- definition says so.
-use Rattle.std.specs.Prelude.{ℕ, ◌+◌, ◌*◌, List, cond, length, get_or, ℤ, pos, ◌-ℤ◌, ltb, leb}
-use Rattle.wire.specs.declared.bytes.U16Read.{U16Read}
-use Rattle.wire.specs.declared.bytes.U16Read.TheVariants as U16
-use Rattle.wire.specs.declared.bytes.I16Read.{I16Read}
-use Rattle.wire.specs.declared.bytes.I16Read.TheVariants as I16
-use Rattle.wire.specs.declared.bytes.I32Read.{I32Read}
-use Rattle.wire.specs.declared.bytes.I32Read.TheVariants as I32
+use Rattle.std.specs.Prelude.{ℕ, ◌+◌, ◌*◌, List, cond, length, get_or, ℤ, pos, ◌-ℤ◌, ltb, leb, Option, Some, None}
 
 -- the unsigned number that two, or four, bytes from place i make, the most significant first
 unfoldable pub u16_at : List ℕ → ℕ → ℕ
@@ -29,11 +23,11 @@ i32_at s i = signed 2147483648 (u32_at s i)
 unfoldable pub if_inside : {A : Type 0} → List ℕ → ℕ → ℕ → A → A → A
 if_inside s i n a b = cond (leb (i + n) (length s)) a b
 
-abbrev pub read_u16 : List ℕ → ℕ → U16Read
-read_u16 s i = if_inside s i 2 (U16.Value (u16_at s i)) U16.Nothing
+abbrev pub read_u16 : List ℕ → ℕ → Option ℕ
+read_u16 s i = if_inside s i 2 (Some (u16_at s i)) None
 
-abbrev pub read_i16 : List ℕ → ℕ → I16Read
-read_i16 s i = if_inside s i 2 (I16.Value (i16_at s i)) I16.Nothing
+abbrev pub read_i16 : List ℕ → ℕ → Option ℤ
+read_i16 s i = if_inside s i 2 (Some (i16_at s i)) None
 
-abbrev pub read_i32 : List ℕ → ℕ → I32Read
-read_i32 s i = if_inside s i 4 (I32.Value (i32_at s i)) I32.Nothing
+abbrev pub read_i32 : List ℕ → ℕ → Option ℤ
+read_i32 s i = if_inside s i 4 (Some (i32_at s i)) None

@@ -1,10 +1,17 @@
 -- What an entry answers: a value, or a refusal; and what a lent buffer holds afterwards.
 use Rattle.std.specs.Prelude.{List, ◌++◌, Bool, true, false, length, drop}
-use Rattle.wire.specs.Refusal.{Refusal}
+use Rattle.std.specs.Prelude as Std
+use Rattle.wire.specs.Refusal.{Refusal, refusal_of}
+use Rattle.wire.specs.declared.error.Level3DecodeError.{Level3DecodeError}
 
 pub data Result (A : Type 0) : Type 0 where
   accepted : A → Result A
   refused : Refusal → Result A
+
+-- what a function's result says: its value, or the number and values of its error
+abbrev pub answer : {A : Type 0} → Std.Result A Level3DecodeError → Result A
+answer (Std.Ok a) = accepted a
+answer (Std.Err e) = refused (refusal_of e)
 
 -- go on with the value; a refusal is passed on
 abbrev pub then : {A B : Type 0} → Result A → (A → Result B) → Result B

@@ -1,22 +1,19 @@
 -- Lists of bytes as text: whether a byte is in one, whether two are equal, whether all bytes pass a test, how many at the front do, what is
 -- left once an end is trimmed.
-use Rattle.std.specs.Prelude.{ℕ, suc, List, [], ◌∷◌, Bool, true, false, cond, ◌&&◌, ◌||◌, eqb}
+use Rattle.std.specs.Prelude.{ℕ, suc, List, [], ◌∷◌, Bool, cond, eqb}
+use Rattle.std.specs.List.{list_all, list_any}
+use Rattle.std.specs.Str.{bytes_eq}
 
 -- n is in the list
-unfoldable pub member : ℕ → List ℕ → Bool
-member n [] = false
-member n (x ∷ s) = eqb n x || member n s
+abbrev pub member : ℕ → List ℕ → Bool
+member n = list_any (λ x. eqb x n)
 
 -- the same bytes, as many and in order
-unfoldable pub same : List ℕ → List ℕ → Bool
-same [] [] = true
-same [] (y ∷ t) = false
-same (x ∷ s) [] = false
-same (x ∷ s) (y ∷ t) = eqb x y && same s t
+abbrev pub same : List ℕ → List ℕ → Bool
+same = bytes_eq
 
-unfoldable pub all : (ℕ → Bool) → List ℕ → Bool
-all p [] = true
-all p (x ∷ s) = p x && all p s
+abbrev pub all : (ℕ → Bool) → List ℕ → Bool
+all = list_all
 
 abbrev pub is_zero : ℕ → Bool
 is_zero x = eqb x 0

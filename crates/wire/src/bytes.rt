@@ -1,31 +1,13 @@
-// Big-endian numbers out of a slice at any offset. `read_.._be` answers Nothing where they run past the end;
+// Big-endian numbers out of a slice at any offset. `read_.._be` answers None where they run past the end;
 // `.._at` counts a missing byte as 0, for a caller that has tested the length.
 ghost use Rattle.std.specs.Prelude.{◌≡◌, ◌-◌, ◌<◌, get_or};
 ghost use Rattle.wire.specs.Bytes.{u16_at, u32_at, i16_at, i32_at, signed, read_u16, read_i16, read_i32};
-
-#[derive(Clone, Copy)]
-pub enum U16Read {
-    Value(u16),
-    Nothing,
-}
-
-#[derive(Clone, Copy)]
-pub enum I16Read {
-    Value(i16),
-    Nothing,
-}
-
-#[derive(Clone, Copy)]
-pub enum I32Read {
-    Value(i32),
-    Nothing,
-}
 
 // The bytes of a length from a place on: none where the place is past it.
 pub fn remaining(len: usize, at: usize) -> usize
     ensures { result ≡ len - at }
 {
-    if at <= len { len - at } else { 0 }
+    len.saturating_sub(at)
 }
 
 // The byte at a place, with its bound.
@@ -66,21 +48,13 @@ pub fn u32_at(s: &[u8], at: usize) -> u32
 pub fn as_i16(x: u16) -> i16
     ensures { result ≡ signed 32768 x }
 {
-    if x < 32768 {
-        x as i16
-    } else {
-        !((65535 - x) as i16)
-    }
+    x.cast_signed()
 }
 
 pub fn as_i32(x: u32) -> i32
     ensures { result ≡ signed 2147483648 x }
 {
-    if x < 2147483648 {
-        x as i32
-    } else {
-        !((4294967295 - x) as i32)
-    }
+    x.cast_signed()
 }
 
 pub fn i16_at(s: &[u8], at: usize) -> i16
@@ -95,29 +69,29 @@ pub fn i32_at(s: &[u8], at: usize) -> i32
     as_i32(u32_at(s, at))
 }
 
-pub fn read_u16_be(buf: &[u8], off: usize) -> U16Read
+pub fn read_u16_be(buf: &[u8], off: usize) -> Option<u16>
     ensures { result ≡ read_u16 buf.now off }
 {
     if remaining(buf.len(), off) < 2 {
-        return U16Read::Nothing;
+        return None;
     }
-    U16Read::Value(u16_at(buf, off))
+    Some(u16_at(buf, off))
 }
 
-pub fn read_i16_be(buf: &[u8], off: usize) -> I16Read
+pub fn read_i16_be(buf: &[u8], off: usize) -> Option<i16>
     ensures { result ≡ read_i16 buf.now off }
 {
     if remaining(buf.len(), off) < 2 {
-        return I16Read::Nothing;
+        return None;
     }
-    I16Read::Value(i16_at(buf, off))
+    Some(i16_at(buf, off))
 }
 
-pub fn read_i32_be(buf: &[u8], off: usize) -> I32Read
+pub fn read_i32_be(buf: &[u8], off: usize) -> Option<i32>
     ensures { result ≡ read_i32 buf.now off }
 {
     if remaining(buf.len(), off) < 4 {
-        return I32Read::Nothing;
+        return None;
     }
-    I32Read::Value(i32_at(buf, off))
+    Some(i32_at(buf, off))
 }

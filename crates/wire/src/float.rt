@@ -34,10 +34,10 @@ pub fn f32_at(s: &[u8], at: usize) -> f32
 pub fn same_f64(a: f64, b: f64) -> bool
     ensures { result ≡ same_float a b }
 {
-    if a != a {
-        return b != b;
+    if a.is_nan() {
+        return b.is_nan();
     }
-    if b != b {
+    if b.is_nan() {
         return false;
     }
     let x = f64::to_bits(a);
@@ -45,15 +45,12 @@ pub fn same_f64(a: f64, b: f64) -> bool
     x == y
 }
 
-// The same of f32.
+// The same of f32, each of which is an f64.
 pub fn same_f32(a: f32, b: f32) -> bool
     ensures { result ≡ same_float a b }
 {
-    if a != a {
-        return b != b;
-    }
-    if b != b {
-        return false;
-    }
-    f32::to_bits(a) == f32::to_bits(b)
+    same_f64(
+        std::num::f32_to_f64_with_nan(a),
+        std::num::f32_to_f64_with_nan(b),
+    )
 }

@@ -14,24 +14,11 @@ pub fn known_message_codes() -> [u16; 26]
     CODES
 }
 
-fn is_code(n: u16) -> bool
-    ensures { result ≡ member n codes }
-{
-    let mut i = 0;
-    while i < 26 {
-        if n == CODES[i] {
-            return true;
-        }
-        i += 1;
-    }
-    false
-}
-
 pub fn is_known_message_code(code: i16) -> bool
     ensures { result ≡ known code }
 {
-    if code < 0 {
-        return false;
+    match u16::try_from(code) {
+        Ok(n) => CODES.contains(&n),
+        Err(_) => false,
     }
-    is_code(code as u16)
 }

@@ -6,43 +6,26 @@ ghost use Rattle.wire.specs.Text.{is_zero, trim_end, same as sameBytes, member};
 pub fn same(a: &[u8], b: &[u8]) -> bool
     ensures { result ≡ sameBytes a.now b.now }
 {
-    if a.len() != b.len() {
-        return false;
-    }
-    let mut i = 0;
-    while i < a.len() {
-        if a[i] != b[i] {
-            return false;
-        }
-        i += 1;
-    }
-    true
+    a == b
 }
 
 // Whether a byte is one of a byte string's.
 pub fn is_in(b: u8, set: &[u8]) -> bool
     ensures { result ≡ member b set.now }
 {
-    let mut i = 0;
-    while i < set.len() {
-        if b == set[i] {
-            return true;
-        }
-        i += 1;
-    }
-    false
+    set.contains(&b)
 }
 
 // The length without the zero bytes at the end.
 pub fn trimmed_len(s: &[u8]) -> usize
     ensures { result ≡ length (trim_end is_zero s.now) }
 {
-    let mut n = s.len();
-    while 0 < n {
-        if s[n - 1] != 0 {
-            return n;
+    let mut kept = s;
+    while let [front @ .., last] = kept {
+        if *last != 0 {
+            break;
         }
-        n -= 1;
+        kept = front;
     }
-    n
+    kept.len()
 }

@@ -10,7 +10,7 @@ use Rattle.wire.specs.Reading.{passed, halted, walk, ◌>>=◌, ◌>>◌, remain
 use Rattle.wire.specs.Text.{trim_end}
 use Rattle.wire.specs.declared.error.XdrItem.TheVariants as Item
 use Rattle.xdr.specs.Xdr.{short, pass, word, int, uint, string_body, string, array_count, int_array, pointer, list_head, further, elements, counted, parameter}
-use Rattle.xdr.specs.Answers.{string_part, array_part}
+use Rattle.xdr.specs.Cursor.{string_part, array_part}
 use Rattle.xdr.specs.declared.xdr.Part.{Part}
 use Rattle.xdr.proofs.Items.{cut}
 

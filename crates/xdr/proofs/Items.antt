@@ -1,4 +1,4 @@
--- Laws of the items: a law for each answer of the code. Assumes nothing.
+-- Laws of the items: what is left is tested, and where they end. Assumes nothing.
 use Prim.Native.Nat.{ℕ, ◌+◌, ◌*◌, ◌-◌, ◌≤◌, ◌<◌}
 use native.Mathlib.Omega.{arith}
 use mathlib.Core.List.{List, [], ◌∷◌}
@@ -13,192 +13,100 @@ use mir.Val.{Fits, SFits}
 use borrow.Author.Tests.{lt-ltb, le-ltb, ltb-false, leb-true}
 use Rattle.wire.specs.Bytes.{u32_at}
 use Rattle.wire.specs.Refusal.{Refusal, kind, nat, whole, item}
-use Rattle.wire.specs.Reading.{Flat, give, ◌>>=◌, ◌>>◌, remaining, u32, unread, Ended, passed, halted, onward, walk}
+use Rattle.wire.specs.Reading.{Flat, give, ◌>>=◌, ◌>>◌, remaining, u32, unread, refuse_if, Ended, passed, halted, onward, walk}
 use Rattle.wire.specs.Text.{is_zero, trim_end}
 use Rattle.wire.specs.declared.error.XdrItem.{XdrItem}
 use Rattle.wire.specs.declared.error.XdrItem.TheVariants as Item
-use Rattle.wire.proofs.Readings.{walk_then, walk_check, then_passed, then_halted, part_slice}
+use Rattle.wire.proofs.Readings.{parts, parts_by, passed_check}
 use Rattle.xdr.specs.Xdr.{short, pass, word, int, uint, padding, string_body, string, array_count, int_array, pointer, list_head, list_count, at_least0}
-use Rattle.xdr.specs.Answers.{body_part, string_part, array_part}
-
-abbrev pub on : ℕ → Ended (Unit {0})
-on q = passed tt q
 
 abbrev pub cut : XdrItem → ℕ → ℕ → Refusal
 cut i have need = kind 23 (item i ∷ nat have ∷ nat need ∷ [])
 
--- ---- a take, and a word
+-- ---- a test of what is left
 
 module _ (i : XdrItem) (n : ℕ) (s : List ℕ) (p : ℕ) where
-  pass_is : walk (pass i n) s p ≡ cond (ltb (length s - p) n) (halted (cut i (length s - p) n) p) (passed tt (p + n))
-  unfolding pass short remaining unread walk ◌>>=◌ ◌>>◌
-  pass_is = walk_check (ltb (length s - p) n) _ _ s p
-
-  pub pass_cut : (have : ℕ) → have ≡ length s - p → have < n → halted (cut i have n) p ≡ walk (pass i n) s p
-  pass_cut have e h = rw (pass_is, ← e) (simp (lt-ltb _ _ h))
-
-  pub pass_next : (have : ℕ) → have ≡ length s - p → n ≤ have → passed tt (p + n) ≡ walk (pass i n) s p
-  pass_next have e h = rw (pass_is, ← e) (simp (le-ltb _ _ h))
-
-  -- what was passed was there
-  pub pass_end : (q : ℕ) → passed tt q ≡ walk (pass i n) s p → (q ≡ p + n) × (n ≤ length s - p)
-  pass_end q e = go (ltb (length s - p) n) refl (e ∙ pass_is)
+  short_is : walk (short i n) s p ≡ cond (ltb (length s - p) n) (halted (cut i (length s - p) n) p) (passed tt p)
+  unfolding short remaining refuse_if walk ◌>>=◌ ◌>>◌
+  short_is = go (ltb (length s - p) n)
     where
-      go : (b : Bool) → ltb (length s - p) n ≡ b → on q ≡ cond b (halted (cut i (length s - p) n) p) (on (p + n)) → (q ≡ p + n) × (n ≤ length s - p)
+      go : (b : Bool) → walk (refuse_if b (cut i (length s - p) n)) s p ≡ cond b (halted (cut i (length s - p) n) p) (passed tt p)
+      go true = refl
+      go false = refl
+
+  pub short_cut : (have : ℕ) → have ≡ length s - p → have < n → halted (cut i have n) p ≡ walk (short i n) s p
+  short_cut have e h = rw (short_is, ← e) (simp (lt-ltb _ _ h))
+
+  pub short_passed : (have : ℕ) → have ≡ length s - p → n ≤ have → passed tt p ≡ walk (short i n) s p
+  short_passed have e h = rw (short_is, ← e) (simp (le-ltb _ _ h))
+
+  -- what was asked for is there
+  pub short_room : (q : ℕ) → passed tt q ≡ walk (short i n) s p → n ≤ length s - p
+  short_room q e = go (ltb (length s - p) n) refl (e ∙ short_is)
+    where
+      go : (b : Bool) → ltb (length s - p) n ≡ b → ◌≡◌ {A = Ended (Unit {0})} (passed tt q) (cond b (halted (cut i (length s - p) n) p) (passed tt p)) → n ≤ length s - p
       go true h k = let z : ◌≡◌ {A = ℕ} 0 1 = cc in absurd (omega arith)
-      go false h k = (cc, ltb-false _ _ h)
+      go false h k = ltb-false _ _ h
+
+  pub short_end : (q : ℕ) → passed tt q ≡ walk (short i n) s p → q ≡ p
+  short_end q e = go (ltb (length s - p) n) (e ∙ short_is)
+    where
+      go : (b : Bool) → ◌≡◌ {A = Ended (Unit {0})} (passed tt q) (cond b (halted (cut i (length s - p) n) p) (passed tt p)) → q ≡ p
+      go true k = let z : ◌≡◌ {A = ℕ} 0 1 = cc in absurd (omega arith)
+      go false k = cc
+
+-- ---- where items end
 
 module _ (i : XdrItem) (s : List ℕ) (p : ℕ) where
-  word_is : walk (word i) s p ≡ cond (ltb (length s - p) 4) (halted (cut i (length s - p) 4) p) (passed (u32_at s p) (p + 4))
-  unfolding word short remaining u32 walk ◌>>=◌ ◌>>◌
-  word_is = walk_check (ltb (length s - p) 4) _ _ s p
-
-  pub word_cut : (have : ℕ) → have ≡ length s - p → have < 4 → halted (cut i have 4) p ≡ walk (word i) s p
-  word_cut have e h = rw (word_is, ← e) (simp (lt-ltb _ _ h))
-
-  pub word_value : (have v : ℕ) → have ≡ length s - p → v ≡ u32_at s p → 4 ≤ have → passed v (p + 4) ≡ walk (word i) s p
-  word_value have v e k h = rw (word_is, ← e, ← k) (simp (le-ltb _ _ h))
-
-  pub word_end : (v q : ℕ) → passed v q ≡ walk (word i) s p → (q ≡ p + 4) × (q ≤ length s)
-  word_end v q e = go (ltb (length s - p) 4) refl (e ∙ word_is)
-    where
-      go : (b : Bool) → ltb (length s - p) 4 ≡ b → passed v q ≡ cond b (halted (cut i (length s - p) 4) p) (passed (u32_at s p) (p + 4)) → (q ≡ p + 4) × (q ≤ length s)
-      go true h k = let z : ◌≡◌ {A = ℕ} 0 1 = cc in absurd (omega arith)
-      go false h k = let f : q ≡ p + 4 = cc in let l : 4 ≤ length s - p = ltb-false _ _ h in (f, omega arith)
-
--- a value worked out of the one that was read
-pub given : {A B : Type 0} (g : A → B) (t : Flat A) (s : List ℕ) (p : ℕ) {a : A} {b : B} {q : ℕ} → passed a q ≡ walk t s p → b ≡ g a
-    → passed b q ≡ walk {W = ⊥} (t >>= λ x. give (g x)) s p
-unfolding walk
-given g t s p e k = rw k (sym (then_passed {W = ⊥} (λ x. give (g x)) t s p e))
-
--- ---- strings
-
-module _ (s : List ℕ) (p n : ℕ) where
-  pub body_cut : {x : Refusal} {q : ℕ} → halted x q ≡ walk (pass Item.StringBody n) s p → halted x q ≡ body_part s p n (walk (string_body n) s p)
-  unfolding string_body ◌>>◌
-  body_cut e = ap (body_part s p n) (then_halted _ (pass Item.StringBody n) s p e)
-
-  module _ {end : ℕ} (whole : passed tt end ≡ walk (pass Item.StringBody n) s p) where
-    body_then : {r : Ended (Unit {0})} → r ≡ walk (pass Item.Padding (padding n)) s end → body_part s p n r ≡ body_part s p n (walk (string_body n) s p)
-    unfolding string_body ◌>>◌
-    body_then e = ap (body_part s p n) (e ∙ sym (then_passed (λ _. pass Item.Padding (padding n)) (pass Item.StringBody n) s p whole))
-
-    pub body_unpadded : {x : Refusal} {q : ℕ} → halted x q ≡ walk (pass Item.Padding (padding n)) s end → halted x q ≡ body_part s p n (walk (string_body n) s p)
-    body_unpadded e = body_then e
-
-    pub body_part_lem : {q len : ℕ} → p ≤ length s → passed tt q ≡ walk (pass Item.Padding (padding n)) s end
-        → len ≡ length (trim_end is_zero (take (end - p) (drop p s)))
-        → passed (record { start = p; len = len }) q ≡ body_part s p n (walk (string_body n) s p)
-    body_part_lem {q} {len} h e k =
-        let f : end ≡ p + n = (pass_end Item.StringBody n s p end whole).0 in
-        let g : len ≡ length (trim_end is_zero (drop p (take (p + n) s))) =
-        k ∙ ap (λ l. length (trim_end is_zero l)) (part_slice s p end (omega arith) ∙ ap (λ m. drop p (take m s)) f) in
-        rw g (body_then e)
-
-    pub body_inside : p ≤ length s → (p ≤ end) × (end ≤ length s)
-    body_inside h = let k = pass_end Item.StringBody n s p end whole in (omega (arith, k.0), omega (arith, k.0, k.1))
+  word_end : (v q : ℕ) → passed v q ≡ walk (word i) s p → (q ≡ p + 4) × (q ≤ length s)
+  unfolding word u32 walk
+  word_end v q e =
+      let t = parts_by (short i 4) u32 s p e in
+      let k = short_room i 4 s p t.middle t.first in
+      let m = short_end i 4 s p t.middle t.first in
+      let l : q ≡ t.middle + 4 = cc in
+      (omega (arith, m, l), omega (arith, m, l, k))
 
 module _ (s : List ℕ) (p : ℕ) where
-  pub string_cut : {x : Refusal} {q : ℕ} → halted x q ≡ walk uint s p → halted x q ≡ string_part s p (walk string s p)
-  unfolding string
-  string_cut e = ap (string_part s p) (then_halted _ uint s p e)
-
-  pub array_count_cut : {x : Refusal} {q : ℕ} → halted x q ≡ walk uint s p → halted x q ≡ walk array_count s p
-  unfolding array_count
-  array_count_cut e = then_halted _ uint s p e
-
-  module _ {v q : ℕ} (known : passed v q ≡ walk uint s p) where
-    pub uint_end : (q ≡ p + 4) × (q ≤ length s)
-    unfolding uint
-    uint_end = word_end Item.Uint s p v q known
-
-    string_is : walk string s p ≡ cond (ltb 4096 v) (halted (kind 24 (nat v ∷ nat 4096 ∷ [])) q) (onward (walk (string_body v) s q) (λ _ r. passed v r))
-    unfolding string ◌>>◌ walk
-    string_is =
-        then_passed _ uint s p known
-        ∙ walk_check (ltb 4096 v) _ _ s q
-        ∙ ap (cond (ltb 4096 v) (halted (kind 24 (nat v ∷ nat 4096 ∷ [])) q)) (walk_then (λ _. give v) (string_body v) s q)
-
-    pub string_long : 4096 < v → halted (kind 24 (nat v ∷ nat 4096 ∷ [])) q ≡ string_part s p (walk string s p)
-    string_long h = rw string_is (simp (lt-ltb _ _ h))
-
-    pub string_body_lem : v ≤ 4096 → body_part s q v (walk (string_body v) s q) ≡ string_part s p (walk string s p)
-    string_body_lem h = rw string_is (simp (le-ltb _ _ h) (rw uint_end.0 (same (walk (string_body v) s (p + 4)))))
-      where
-        same : (e : Ended (Unit {0})) → body_part s (p + 4) v e ≡ string_part s p (onward e (λ _ r. passed v r))
-        same (passed a r) = refl
-        same (halted x r) = refl
-
-    -- ---- integer arrays
-
-    count_is : walk array_count s p ≡ cond (ltb 100000 v) (halted (kind 25 (nat v ∷ nat 100000 ∷ [])) q)
-        (cond (ltb (length s - q) (v * 4)) (halted (cut Item.ArrayBody (length s - q) (v * 4)) q) (passed v q))
-    unfolding array_count short remaining walk ◌>>=◌ ◌>>◌
-    count_is =
-        then_passed _ uint s p known
-        ∙ walk_check (ltb 100000 v) _ _ s q
-        ∙ ap (cond (ltb 100000 v) (halted (kind 25 (nat v ∷ nat 100000 ∷ [])) q)) (walk_check (ltb (length s - q) (v * 4)) _ _ s q)
-
-    pub array_count_long : 100000 < v → halted (kind 25 (nat v ∷ nat 100000 ∷ [])) q ≡ walk array_count s p
-    array_count_long h = rw count_is (simp (lt-ltb _ _ h))
-
-    module _ (fits : v ≤ 100000) (have : ℕ) (room : have ≡ length s - q) where
-      pub array_count_short : have < v * 4 → halted (cut Item.ArrayBody have (v * 4)) q ≡ walk array_count s p
-      array_count_short h = rw (count_is, ← room) (simp (le-ltb _ _ fits, lt-ltb _ _ h))
-
-      pub array_count_whole : v * 4 ≤ have → passed v q ≡ walk array_count s p
-      array_count_whole h = rw (count_is, ← room) (simp (le-ltb _ _ fits, le-ltb _ _ h))
+  pub uint_end : {v q : ℕ} → passed v q ≡ walk uint s p → (q ≡ p + 4) × (q ≤ length s)
+  unfolding uint
+  uint_end {v} {q} e = word_end Item.Uint s p v q e
 
   -- what an array's count says of its place, and that its body is there
   pub array_count_end : (n q : ℕ) → passed n q ≡ walk array_count s p → (q ≡ p + 4) × (n * 4 ≤ length s - q) × (q ≤ length s)
-  array_count_end n q e = go (walk uint s p) refl
-    where
-      goal : Type 0
-      goal = (q ≡ p + 4) × (n * 4 ≤ length s - q) × (q ≤ length s)
+  unfolding array_count walk
+  array_count_end n q e =
+      let t = parts (λ n. refuse_if (ltb 100000 n) (kind 25 (nat n ∷ nat 100000 ∷ [])) >> (short Item.ArrayBody (n * 4) >> give n)) uint s p e in
+      let u = (passed_check (ltb 100000 t.value) _ _ s t.middle t.second).1 in
+      let w = parts_by (short Item.ArrayBody (t.value * 4)) (give t.value) s t.middle u in
+      let k = short_room Item.ArrayBody (t.value * 4) s t.middle w.middle w.first in
+      let m = short_end Item.ArrayBody (t.value * 4) s t.middle w.middle w.first in
+      let a : n ≡ t.value = cc in
+      let b : q ≡ w.middle = cc in
+      let c = uint_end t.first in
+      (omega (arith, b, m, c.0), omega (arith, a, b, m, k), omega (arith, b, m, c.1))
 
-      last : (v r : ℕ) (b c : Bool) → passed v r ≡ walk uint s p → ltb (length s - r) (v * 4) ≡ c
-          → passed n q ≡ cond b (halted (kind 25 (nat v ∷ nat 100000 ∷ [])) r) (cond c (halted (cut Item.ArrayBody (length s - r) (v * 4)) r) (passed v r)) → goal
-      last v r true c k l h = let z : ◌≡◌ {A = ℕ} 0 1 = cc in absurd (omega arith)
-      last v r false true k l h = let z : ◌≡◌ {A = ℕ} 0 1 = cc in absurd (omega arith)
-      last v r false false k l h =
-          let a : n ≡ v = cc in
-          let b : q ≡ r = cc in
-          let u = uint_end k in
-          let w : v * 4 ≤ length s - r = ltb-false _ _ l in
-          (b ∙ u.0, rw (a, b) w, rw b u.1)
+  pass_end : (i : XdrItem) (n q : ℕ) → passed tt q ≡ walk (pass i n) s p → (q ≡ p + n) × (n ≤ length s - p)
+  unfolding pass unread walk
+  pass_end i n q e =
+      let t = parts_by (short i n) (unread n) s p e in
+      let k = short_room i n s p t.middle t.first in
+      let m = short_end i n s p t.middle t.first in
+      let l : q ≡ t.middle + n = cc in
+      (omega (arith, m, l), k)
 
-      go : (y : Ended ℕ) → walk uint s p ≡ y → goal
-      go (passed v r) k = last v r (ltb 100000 v) (ltb (length s - r) (v * 4)) (sym k) refl (e ∙ count_is (sym k))
-      go (halted x r) k = let h = e ∙ sym (array_count_cut (sym k)) in let z : ◌≡◌ {A = ℕ} 0 1 = cc in absurd (omega arith)
-
-  pub array_cut : {x : Refusal} {q : ℕ} → halted x q ≡ walk array_count s p → halted x q ≡ array_part p (walk int_array s p)
-  unfolding int_array
-  array_cut e = ap (array_part p) (then_halted _ array_count s p e)
-
-  pub array_part_lem : {n q : ℕ} → passed n q ≡ walk array_count s p → passed (record { start = q; len = n }) (q + n * 4) ≡ array_part p (walk int_array s p)
-  unfolding int_array unread walk ◌>>=◌ ◌>>◌
-  array_part_lem {n} {q} e =
-      ap (λ k. passed (record { start = k; len = n }) (q + n * 4)) (array_count_end n q e).0
-      ∙ ap (array_part p) (sym (then_passed (λ n. unread (n * 4) >> give n) array_count s p e))
-
--- ---- list heads
-
-module _ (s : List ℕ) (p : ℕ) where
-  pub head_cut : {x : Refusal} {q : ℕ} → halted x q ≡ walk int s p → halted x q ≡ walk list_head s p
-  unfolding list_head
-  head_cut e = then_halted _ int s p e
-
-  module _ {n : ℤ} {q : ℕ} (known : passed n q ≡ walk int s p) where
-    pub head_unpointed : {x : Refusal} {r : ℕ} → halted x r ≡ walk (pass Item.Int 4) s q → halted x r ≡ walk list_head s p
-    unfolding list_head pointer ◌>>◌
-    head_unpointed e = sym (then_passed _ int s p known ∙ sym (then_halted _ (pass Item.Int 4) s q e))
-
-    pub head_count : {y : ℤ} {r : ℕ} → y ≡ n → passed tt r ≡ walk (pass Item.Int 4) s q → list_count y r ≡ walk list_head s p
-    unfolding list_head pointer ◌>>◌ walk
-    head_count {y} {r} k e =
-        ap (λ z. list_count z r) k
-        ∙ sym (then_passed _ int s p known ∙ then_passed _ (pass Item.Int 4) s q e ∙ walk_check (lt_z (pos 10000) n) _ _ s r)
+-- and a string's, that its body is there
+pub string_inside : (s : List ℕ) (p n q : ℕ) → passed n q ≡ walk string s p → (p + 4 ≤ length s) × (n ≤ length s - (p + 4))
+unfolding string string_body walk
+string_inside s p n q e =
+    let t = parts (λ n. refuse_if (ltb 4096 n) (kind 24 (nat n ∷ nat 4096 ∷ [])) >> (string_body n >> give n)) uint s p e in
+    let u = (passed_check (ltb 4096 t.value) _ _ s t.middle t.second).1 in
+    let w = parts_by (string_body t.value) (give t.value) s t.middle u in
+    let b = parts_by (pass Item.StringBody t.value) (pass Item.Padding (padding t.value)) s t.middle w.first in
+    let k = pass_end s t.middle Item.StringBody t.value b.middle b.first in
+    let a : n ≡ t.value = cc in
+    let c = uint_end s p t.first in
+    (omega (arith, c.0, c.1), omega (arith, a, c.0, k.1))
 
 -- ---- counts: y is the machine's reading of z
 
@@ -216,9 +124,3 @@ module _ {y z : ℤ} (known : y ≡ z) where
       fits : (z : ℤ) → SFits w32 z → le_z z (pos 0) ≡ false → (T (non_neg z) × Fits w64 (nat_abs z)) × ((nat_abs z ≡ at_least0 z) × (nat_abs z < 2147483648))
       fits (pos n) f t = ((tt, record { fits = omega (arith, f.sfits) }), (refl, f.sfits))
       fits (negsuc n) f t = let z : ◌≡◌ {A = ℕ} 0 1 = cc in absurd (omega arith)
-
-  pub count_long : (at : ℕ) → lt_z (pos 10000) y ≡ true → halted (kind 26 (whole y ∷ whole (pos 10000) ∷ [])) at ≡ list_count z at
-  count_long at t = rw (← known) (simp t)
-
-  pub count_value : (at : ℕ) {n : ℕ} → lt_z (pos 10000) y ≡ false → n ≡ at_least0 y → passed n at ≡ list_count z at
-  count_value at t e = rw (e, ← known) (simp t)

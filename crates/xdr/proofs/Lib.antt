@@ -1,4 +1,5 @@
 pub mod Items
-pub mod Lists
+pub mod Chains
 pub mod Plains
 pub mod Examples
+pub mod Places

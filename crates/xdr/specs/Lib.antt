@@ -1,4 +1,3 @@
 pub mod Xdr
-pub mod Answers
 pub mod Cursor
 pub mod Each

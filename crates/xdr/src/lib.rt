@@ -1,7 +1,5 @@
-// XDR (RFC 4506): the items that symbology packet 28 is made of, read from a payload at a position.
+// XDR (RFC 4506): the items that symbology packet 28 is made of, read one after another from a payload.
 #![tactic(auto)]
 
-pub mod cursor;
 pub mod each;
-pub mod steps;
 pub mod xdr;

@@ -1,9 +1,8 @@
-// XDR items on a slice and a position. An answer has the value and the position after it, or the refusal and the position where the
-// read stopped: after the last whole take.
-ghost use Rattle.std.specs.Prelude.{◌≡◌, ◌≤◌, ◌<◌, length};
-ghost use Rattle.wire.specs.Reading.{walk};
-ghost use Rattle.xdr.specs.Xdr.{pass, word, int, uint, float, string_body, string, array_count, int_array, at_least0, list_count, list_head};
-ghost use Rattle.xdr.specs.Answers.{step_of, uint_of, int_of, float_of, count_of, part_of, body_part, string_part, array_part};
+// A payload and a position in it. Each read leaves the cursor where it ended; a refused one after its last whole take.
+ghost use Rattle.std.specs.Prelude.{◌≡◌, ◌-◌, ◌<◌, length};
+ghost use Rattle.wire.specs.Reading.{outcome, walk};
+ghost use Rattle.xdr.specs.Xdr.{short, pass, word, int, uint, float, string, array_count, int_array, at_least0, list_head, parameter, counted};
+ghost use Rattle.xdr.specs.Cursor.{start, from_place, read_at, done, string_part, array_part, Leaves, Tests};
 
 use wire::error::{Level3DecodeError, XdrItem};
 
@@ -20,200 +19,10 @@ pub struct Part {
     pub len: usize,
 }
 
-// A position, or the refusal that came before it.
-#[derive(Clone, Copy)]
-pub enum Step {
-    At(usize),
-    Refused { error: Level3DecodeError, at: usize },
-}
-
-#[derive(Clone, Copy)]
-pub enum UintRead {
-    Value { value: u32, next: usize },
-    Refused { error: Level3DecodeError, at: usize },
-}
-
-#[derive(Clone, Copy)]
-pub enum IntRead {
-    Value { value: i32, next: usize },
-    Refused { error: Level3DecodeError, at: usize },
-}
-
-#[derive(Clone, Copy)]
-pub enum FloatRead {
-    Value { value: f32, next: usize },
-    Refused { error: Level3DecodeError, at: usize },
-}
-
-#[derive(Clone, Copy)]
-pub enum CountRead {
-    Value { value: usize, next: usize },
-    Refused { error: Level3DecodeError, at: usize },
-}
-
-#[derive(Clone, Copy)]
-pub enum PartRead {
-    Value { value: Part, next: usize },
-    Refused { error: Level3DecodeError, at: usize },
-}
-
-// Past the next n bytes: none at all pass at any position.
-pub(crate) fn take(buf: &[u8], at: usize, item: XdrItem, n: usize) -> Step
-    ensures { step_of result ≡ walk (pass item n) buf.now at }
-{
-    let have = wire::bytes::remaining(buf.len(), at);
-    if have < n {
-        return Step::Refused {
-            error: Level3DecodeError::XdrTruncated {
-                context: item,
-                have,
-                need: n,
-            },
-            at,
-        };
-    }
-    Step::At(at + n)
-}
-
-fn unpack_word(buf: &[u8], at: usize, item: XdrItem) -> UintRead
-    ensures { uint_of result ≡ walk (word item) buf.now at }
-{
-    let have = wire::bytes::remaining(buf.len(), at);
-    if have < 4 {
-        return UintRead::Refused {
-            error: Level3DecodeError::XdrTruncated {
-                context: item,
-                have,
-                need: 4,
-            },
-            at,
-        };
-    }
-    UintRead::Value {
-        value: wire::bytes::u32_at(buf, at),
-        next: at + 4,
-    }
-}
-
-pub fn unpack_uint(buf: &[u8], at: usize) -> UintRead
-    ensures { uint_of result ≡ walk uint buf.now at }
-{
-    unpack_word(buf, at, XdrItem::Uint)
-}
-
-pub fn unpack_int(buf: &[u8], at: usize) -> IntRead
-    ensures { int_of result ≡ walk int buf.now at }
-{
-    match unpack_word(buf, at, XdrItem::Int) {
-        UintRead::Value { value, next } => IntRead::Value {
-            value: wire::bytes::as_i32(value),
-            next,
-        },
-        UintRead::Refused { error, at } => IntRead::Refused { error, at },
-    }
-}
-
-pub fn unpack_float(buf: &[u8], at: usize) -> FloatRead
-    ensures { float_of result ≡ walk float buf.now at }
-{
-    match unpack_word(buf, at, XdrItem::Float) {
-        UintRead::Value { value, next } => FloatRead::Value {
-            value: wire::float::f32_from_bits(value),
-            next,
-        },
-        UintRead::Refused { error, at } => FloatRead::Refused { error, at },
-    }
-}
-
-// The body of a string of n bytes, and its padding.
-fn string_body(buf: &[u8], at: usize, n: usize) -> PartRead
-    requires { at ≤ length buf.now }
-    ensures { part_of result ≡ body_part buf.now at n (walk (string_body n) buf.now at) }
-{
-    match take(buf, at, XdrItem::StringBody, n) {
-        Step::Refused { error, at } => PartRead::Refused { error, at },
-        Step::At(end) => match take(buf, end, XdrItem::Padding, (4 - n % 4) % 4) {
-            Step::Refused { error, at } => PartRead::Refused { error, at },
-            Step::At(next) => {
-                let len = wire::text::trimmed_len(&buf[at..end]);
-                PartRead::Value {
-                    value: Part { start: at, len },
-                    next,
-                }
-            }
-        },
-    }
-}
-
-// A length of at most 4,096, the body, and the padding to a multiple of four. The answer is the part that the body occupies, trailing
-// zero bytes trimmed.
-pub fn unpack_string(buf: &[u8], at: usize) -> PartRead
-    ensures { part_of result ≡ string_part buf.now at (walk string buf.now at) }
-{
-    match unpack_uint(buf, at) {
-        UintRead::Refused { error, at } => PartRead::Refused { error, at },
-        UintRead::Value { value, next } => {
-            if MAX_XDR_STRING_LEN < value {
-                return PartRead::Refused {
-                    error: Level3DecodeError::XdrStringTooLong {
-                        len: value,
-                        max: MAX_XDR_STRING_LEN,
-                    },
-                    at: next,
-                };
-            }
-            string_body(buf, next, value as usize)
-        }
-    }
-}
-
-// The count of an integer array, at most 100,000, whose body is there. The position after it is the body's.
-pub fn array_count(buf: &[u8], at: usize) -> CountRead
-    ensures { count_of result ≡ walk array_count buf.now at }
-{
-    match unpack_uint(buf, at) {
-        UintRead::Refused { error, at } => CountRead::Refused { error, at },
-        UintRead::Value { value, next } => {
-            if MAX_XDR_ARRAY_LEN < value {
-                return CountRead::Refused {
-                    error: Level3DecodeError::XdrArrayTooLong {
-                        len: value,
-                        max: MAX_XDR_ARRAY_LEN,
-                    },
-                    at: next,
-                };
-            }
-            let len = value as usize;
-            let have = wire::bytes::remaining(buf.len(), next);
-            if have < len * 4 {
-                return CountRead::Refused {
-                    error: Level3DecodeError::XdrTruncated {
-                        context: XdrItem::ArrayBody,
-                        have,
-                        need: len * 4,
-                    },
-                    at: next,
-                };
-            }
-            CountRead::Value { value: len, next }
-        }
-    }
-}
-
-// An integer array: the place of its first integer, and their number.
-pub fn unpack_int_array(buf: &[u8], at: usize) -> PartRead
-    ensures { part_of result ≡ array_part at (walk int_array buf.now at) }
-{
-    match array_count(buf, at) {
-        CountRead::Refused { error, at } => PartRead::Refused { error, at },
-        CountRead::Value { value, next } => PartRead::Value {
-            value: Part {
-                start: next,
-                len: value,
-            },
-            next: next + value * 4,
-        },
-    }
+#[derive(Drop)]
+pub struct XdrCursor<'a> {
+    buf: &'a [u8],
+    pos: usize,
 }
 
 // A signed number as a count: 0 below 0.
@@ -226,34 +35,177 @@ pub fn at_least_0(n: i32) -> usize
     n as usize
 }
 
-// How many elements a list has by its count: none at or below 0.
-fn list_count(count: i32, at: usize) -> CountRead
-    ensures { count_of result ≡ list_count count at }
-{
-    if MAX_XDR_LIST_LEN < count {
-        return CountRead::Refused {
-            error: Level3DecodeError::XdrListTooLong {
+impl<'a> XdrCursor<'a> {
+    pub fn new(buf: &'a [u8]) -> XdrCursor<'a>
+        ensures { result ≡ start buf.entry }
+    {
+        XdrCursor { buf, pos: 0 }
+    }
+
+    pub fn from(buf: &'a [u8], pos: usize) -> XdrCursor<'a>
+        ensures { result ≡ from_place buf.entry pos }
+    {
+        XdrCursor { buf, pos }
+    }
+
+    pub fn position(&self) -> usize
+        ensures { result ≡ self.now.pos }
+    {
+        self.pos
+    }
+
+    pub fn bytes_remaining(&self) -> usize
+        ensures { result ≡ length self.now.buf.now - self.now.pos }
+    {
+        self.buf.len().saturating_sub(self.pos)
+    }
+
+    // 23 where fewer bytes are left.
+    fn need(&self, item: XdrItem, need: usize) -> Result<(), Level3DecodeError>
+        ensures { Tests (short item need) result self.now }
+    {
+        let have = self.bytes_remaining();
+        if have < need {
+            return Err(Level3DecodeError::XdrTruncated {
+                context: item,
+                have,
+                need,
+            });
+        }
+        Ok(())
+    }
+
+    // Past the next n bytes: none at all pass at any position.
+    pub fn skip(&mut self, item: XdrItem, n: usize) -> Result<(), Level3DecodeError>
+        ensures { Leaves (read_at (pass item n) self.old) result self.old self.new }
+    {
+        self.need(item, n)?;
+        self.pos += n;
+        Ok(())
+    }
+
+    fn unpack_word(&mut self, item: XdrItem) -> Result<u32, Level3DecodeError>
+        ensures { Leaves (read_at (word item) self.old) result self.old self.new }
+    {
+        self.need(item, 4)?;
+        let value = wire::bytes::u32_at(self.buf, self.pos);
+        self.pos += 4;
+        Ok(value)
+    }
+
+    pub fn unpack_uint(&mut self) -> Result<u32, Level3DecodeError>
+        ensures { Leaves (read_at uint self.old) result self.old self.new }
+    {
+        self.unpack_word(XdrItem::Uint)
+    }
+
+    pub fn unpack_int(&mut self) -> Result<i32, Level3DecodeError>
+        ensures { Leaves (read_at int self.old) result self.old self.new }
+    {
+        let value = self.unpack_word(XdrItem::Int)?;
+        Ok(wire::bytes::as_i32(value))
+    }
+
+    pub fn unpack_float(&mut self) -> Result<f32, Level3DecodeError>
+        ensures { Leaves (read_at float self.old) result self.old self.new }
+    {
+        let value = self.unpack_word(XdrItem::Float)?;
+        Ok(wire::float::f32_from_bits(value))
+    }
+
+    // A string's length, at most 4,096; past its body, and the padding to a multiple of four.
+    pub fn skip_string(&mut self) -> Result<usize, Level3DecodeError>
+        ensures { Leaves (read_at string self.old) result self.old self.new }
+    {
+        let len = self.unpack_uint()?;
+        if MAX_XDR_STRING_LEN < len {
+            return Err(Level3DecodeError::XdrStringTooLong {
+                len,
+                max: MAX_XDR_STRING_LEN,
+            });
+        }
+        let n = len as usize;
+        self.skip(XdrItem::StringBody, n)?;
+        self.skip(XdrItem::Padding, (4 - n % 4) % 4)?;
+        Ok(n)
+    }
+
+    // The part of the payload that the string occupies, trailing zero bytes trimmed.
+    pub fn unpack_string(&mut self) -> Result<Part, Level3DecodeError>
+        ensures { Leaves (string_part self.old.buf.now self.old.pos (read_at string self.old)) result self.old self.new }
+    {
+        let buf = self.buf;
+        let at = self.pos;
+        let n = self.skip_string()?;
+        let start = at + 4;
+        let end = start + n;
+        let len = wire::text::trimmed_len(&buf[start..end]);
+        Ok(Part { start, len })
+    }
+
+    // The count of an integer array, at most 100,000, whose body is there. The cursor stands at the body.
+    pub fn array_count(&mut self) -> Result<usize, Level3DecodeError>
+        ensures { Leaves (read_at array_count self.old) result self.old self.new }
+    {
+        let len = self.unpack_uint()?;
+        if MAX_XDR_ARRAY_LEN < len {
+            return Err(Level3DecodeError::XdrArrayTooLong {
+                len,
+                max: MAX_XDR_ARRAY_LEN,
+            });
+        }
+        let n = len as usize;
+        self.need(XdrItem::ArrayBody, n * 4)?;
+        Ok(n)
+    }
+
+    // The place of the array's first integer, and their number.
+    pub fn unpack_int_array(&mut self) -> Result<Part, Level3DecodeError>
+        ensures { Leaves (array_part self.old.pos (read_at int_array self.old)) result self.old self.new }
+    {
+        let len = self.array_count()?;
+        let start = self.pos;
+        self.pos += len * 4;
+        Ok(Part { start, len })
+    }
+
+    // The number of elements of a list. The first stands at the position after it. Its pointer is read before the count is looked at.
+    pub fn list_head(&mut self) -> Result<usize, Level3DecodeError>
+        ensures { Leaves (read_at list_head self.old) result self.old self.new }
+    {
+        let count = self.unpack_int()?;
+        self.skip(XdrItem::Int, 4)?; // the first pointer
+        if MAX_XDR_LIST_LEN < count {
+            return Err(Level3DecodeError::XdrListTooLong {
                 len: count,
                 max: MAX_XDR_LIST_LEN,
-            },
-            at,
-        };
+            });
+        }
+        Ok(at_least_0(count))
     }
-    CountRead::Value {
-        value: at_least_0(count),
-        next: at,
-    }
-}
 
-// A list's count and its first pointer, which is read before the count is looked at.
-pub fn list_head(buf: &[u8], at: usize) -> CountRead
-    ensures { count_of result ≡ walk list_head buf.now at }
-{
-    match unpack_int(buf, at) {
-        IntRead::Refused { error, at } => CountRead::Refused { error, at },
-        IntRead::Value { value, next } => match take(buf, next, XdrItem::Int, 4) {
-            Step::Refused { error, at } => CountRead::Refused { error, at },
-            Step::At(first) => list_count(value, first),
-        },
+    // A parameter: its name and its value.
+    pub fn skip_parameter(&mut self) -> Result<(), Level3DecodeError>
+        ensures { Leaves (read_at parameter self.old) result self.old self.new }
+    {
+        self.skip_string()?;
+        self.skip_string()?;
+        Ok(())
+    }
+
+    // Past a counted list of parameters.
+    pub fn skip_parameters(&mut self) -> Result<(), Level3DecodeError>
+        ensures { Leaves (done (read_at (counted parameter) self.old)) result self.old self.new }
+    {
+        let n = self.list_head()?;
+        if n == 0 {
+            return Ok(());
+        }
+        self.skip_parameter()?;
+        for _ in 1..n {
+            self.skip(XdrItem::Int, 4)?; // a pointer between any two
+            self.skip_parameter()?;
+        }
+        Ok(())
     }
 }

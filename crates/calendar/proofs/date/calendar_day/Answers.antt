@@ -1,10 +1,7 @@
 use native.Mathlib.Omega.{arith}
-use Rattle.calendar.proofs.Search.{no_day, a_day, day_small}
+use Rattle.calendar.proofs.Search.{a_day, day_small}
 use borrow.Author.Rules.{rules}
 use Rattle.calendar.proofs.date.calendar_day.Goals as goal
-
-pub returns-then-days-eq0 : goal.returns-then-days-eq0
-returns-then-days-eq0 c = no_day c.if-days-eq0.true
 
 pub overflow_add-result-3 : goal.overflow_add-result-3
 overflow_add-result-3 c = omega (arith, day_small c.month_of_day-k.ensures.1)

@@ -1,10 +1,8 @@
-use Rattle.std.proofs.Common.{length, refl, ap, ◌∙◌}
-use Rattle.capi.specs.Report.{over}
-use Rattle.capi.proofs.Answers.{codes_bad, codes_good}
+use native.Mathlib.Omega.{arith}
+use lib.Seq.{length-take-le}
+use Rattle.wire.specs.Products.{codes}
 use Rattle.capi.proofs.products.l3_codes.Goals as goal
 
-pub returns-then-table-lt26 : goal.returns-then-table-lt26
-returns-then-table-lt26 c = rw (codes_bad (length c.args.table.now) c.if-table-lt26.true) (record { value = refl; table_after = refl })
-
-pub returns : goal.returns
-returns c = rw (codes_good (length c.args.table.now) c.if-table-lt26.false) (record { value = refl; table_after = c.copy_u16.ensures ∙ ap (λ x. over x c.args.table.now) c.known_message_codes-codes.ensures })
+pub copy_from_slice-requires : goal.copy_from_slice-requires
+unfolding codes
+copy_from_slice-requires c = rw c.known_message_codes-codes.ensures (length-take-le 26 c.args.table.now (omega arith))

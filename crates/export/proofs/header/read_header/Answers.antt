@@ -1,25 +1,25 @@
-use mathlib.Core.Path.{sym, ap, ◌∙◌}
+use mathlib.Core.Path.{◌∙◌}
 use mir.Facts.{to_z-of_z}
 use mir.Syntax.{w16}
-use Rattle.symbology.specs.Answers.{code_read_of, header_of}
+use Rattle.wire.proofs.Results.{returned}
 use Rattle.export.proofs.Original.{head_refused, head_code, head_cut, head_counts, head_long, head_whole}
 use borrow.Author.Rules.{rules}
 use Rattle.export.proofs.header.read_header.Goals as goal
 
-pub returns-in-Refused : goal.returns-in-Refused
-returns-in-Refused c = head_refused _ (ap code_read_of (sym c.in-Refused.is) ∙ c.read_code.ensures)
+pub returns-in_err-code : goal.returns-in_err-code
+returns-in_err-code c = rw (returned c.from_residual.ensures.1) (head_refused _ c.in_err-code.ensures)
 
 pub returns-then-code : goal.returns-then-code
-returns-then-code c = head_code _ (ap code_read_of (sym c.in-Value.is) ∙ c.read_code.ensures) c.if-code.true (to_z-of_z {w = w16} {z = c.as_i16.result} (search rules) ∙ c.as_i16.ensures)
+returns-then-code c = head_code _ c.in_ok-code.ensures c.if-code.true (to_z-of_z {w = w16} {z = c.as_i16.result} (search rules) ∙ c.as_i16.ensures)
 
 pub returns-then-len-lt30 : goal.returns-then-len-lt30
-returns-then-len-lt30 c = head_cut _ (ap code_read_of (sym c.in-Value.is) ∙ c.read_code.ensures) c.if-code.false c.if-len-lt30.true
+returns-then-len-lt30 c = head_cut _ c.in_ok-code.ensures c.if-code.false c.if-len-lt30.true
 
-pub returns-in-Refused-read_counts : goal.returns-in-Refused-read_counts
-returns-in-Refused-read_counts c = head_counts _ (ap code_read_of (sym c.in-Value.is) ∙ c.read_code.ensures) c.if-code.false c.if-len-lt30.false c.count_at-first.ensures.0 (ap header_of (sym c.in-Refused-read_counts.is) ∙ c.read_counts.ensures)
+pub returns-in_err-header : goal.returns-in_err-header
+returns-in_err-header c = rw (returned c.from_residual-in_err-header.ensures.1) (head_counts _ c.in_ok-code.ensures c.if-code.false c.if-len-lt30.false c.count_at-first.ensures.0 c.in_err-header.ensures)
 
 pub returns-then-header-eq-TOO_MANY_BINS : goal.returns-then-header-eq-TOO_MANY_BINS
-returns-then-header-eq-TOO_MANY_BINS c = head_long _ (ap code_read_of (sym c.in-Value.is) ∙ c.read_code.ensures) c.if-code.false c.if-len-lt30.false c.count_at-first.ensures.0 (ap header_of (sym c.in-Value-read_counts.is) ∙ c.read_counts.ensures) c.if-header-eq-TOO_MANY_BINS.true
+returns-then-header-eq-TOO_MANY_BINS c = head_long _ c.in_ok-code.ensures c.if-code.false c.if-len-lt30.false c.count_at-first.ensures.0 c.in_ok-header.ensures c.if-header-eq-TOO_MANY_BINS.true
 
 pub returns : goal.returns
-returns c = head_whole _ (ap code_read_of (sym c.in-Value.is) ∙ c.read_code.ensures) c.if-code.false c.if-len-lt30.false c.count_at-first.ensures.0 (ap header_of (sym c.in-Value-read_counts.is) ∙ c.read_counts.ensures) c.if-header-eq-TOO_MANY_BINS.false
+returns c = head_whole _ c.in_ok-code.ensures c.if-code.false c.if-len-lt30.false c.count_at-first.ensures.0 c.in_ok-header.ensures c.if-header-eq-TOO_MANY_BINS.false

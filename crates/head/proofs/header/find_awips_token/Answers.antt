@@ -1,16 +1,13 @@
+use Rattle.std.proofs.Common.{◌≡◌, arith, min, length, length-take, ◌∙◌, ap, take}
+use Rattle.std.proofs.lemmas.List.{take_min}
 use Rattle.head.specs.Header.{token, cut, first_token}
-use lib.Seq.{take_all, length-take-le}
-use native.Mathlib.Omega.{arith}
-use mathlib.Core.Path.{◌∙◌, sym, ap}
 use Rattle.head.proofs.header.find_awips_token.Goals as goal
 
-pub returns-then-file-lt128 : goal.returns-then-file-lt128
-unfolding token
-returns-then-file-lt128 c = c.token_of.ensures ∙ ap (λ t. first_token 0 (cut t)) (sym (take_all 128 c.args.file.now (omega arith)))
-
 pub slice_bounds-token_of-end : goal.slice_bounds-token_of-end
-slice_bounds-token_of-end c = sym (length-take-le 128 c.args.file.now c.if-file-lt128.false)
+slice_bounds-token_of-end c = omega (arith, length-take c.min.result c.args.file.now)
 
 pub returns : goal.returns
 unfolding token
-returns c = c.token_of-2.ensures
+returns c =
+    let e : c.min.result ≡ min 128 (length c.args.file.now) = omega arith in
+    c.token_of.ensures ∙ ap (λ t. first_token 0 (cut t)) (ap (λ n. take n c.args.file.now) e ∙ take_min 128 c.args.file.now)

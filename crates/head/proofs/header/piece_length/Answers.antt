@@ -1,16 +1,10 @@
-use Rattle.head.proofs.Cut.{span_hit, span_next, span_end}
-use Rattle.wire.proofs.Walks.{walk_first}
-use mathlib.Core.Path.{◌∙◌, sym, refl}
+use Rattle.std.proofs.Common.{◌≡◌, true, false, rules, tests, ◌∙◌}
+use Rattle.std.proofs.lemmas.Iterator.{first_from_Range}
+use Rattle.head.proofs.Cut.{separated, first_separator}
 use Rattle.head.proofs.header.piece_length.Goals as goal
 
-pub loop-i-init : goal.loop-i-init
-loop-i-init c = walk_first _ _
-
-pub returns-then-same : goal.returns-then-same
-returns-then-same c = span_hit c.loop-i.invariant _ refl c.loop-i-test.true (sym c.same.ensures ∙ c.if-same.true)
-
-pub loop-i-preserved : goal.loop-i-preserved
-loop-i-preserved c = span_next c.loop-i.invariant _ refl c.loop-i-test.true (sym c.same.ensures ∙ c.if-same.false)
-
 pub returns : goal.returns
-returns c = span_end c.loop-i.invariant c.loop-i-test.false
+returns c =
+    let s = c.args.s.now in
+    let found = first_from_Range _ _ _ _ (λ k. separated s k ≡ true) (λ k. separated s k ≡ false) c.find.ensures.ran (λ x q k. search (rules, tests)) (λ x q k. search (rules, tests)) in
+    c.unwrap_or.ensures ∙ first_separator s c.find.result found

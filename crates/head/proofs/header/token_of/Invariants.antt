@@ -1,7 +1,6 @@
 use Rattle.head.proofs.Token.{tokens}
 use Rattle.wire.proofs.Walks.{Walk}
-use lib.ListN.{length}
-use Prim.Native.Nat.{◌-◌}
+use Rattle.std.proofs.Common.{◌-◌, length}
 use Rattle.head.proofs.header.token_of.Given as goal
 
 abbrev pub invariant-loop-k : goal.invariant-loop-k

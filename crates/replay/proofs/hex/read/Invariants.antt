@@ -1,10 +1,9 @@
-use Rattle.std.proofs.Common.{◌-◌, length}
-use Rattle.capi.proofs.Copied.{Copied}
-use Rattle.replay.specs.Hex.{bytes_in}
+use Rattle.std.proofs.Common.{◌≡◌, ◌++◌, length}
+use Rattle.replay.specs.Hex.{bytes_of}
 use Rattle.replay.proofs.hex.read.Given as goal
 
-abbrev pub invariant-loop-i : goal.invariant-loop-i
-invariant-loop-i l = Copied (bytes_in (length l.initial.buf) l.word) l.initial.buf l.buf l.i
+abbrev pub invariant-loop-rest : goal.invariant-loop-rest
+invariant-loop-rest l = l.bytes.items ++ bytes_of l.rest ≡ bytes_of l.fn.word
 
-abbrev pub decreases-loop-i : goal.decreases-loop-i
-decreases-loop-i l = length l.initial.buf - l.i
+abbrev pub decreases-loop-rest : goal.decreases-loop-rest
+decreases-loop-rest l = length l.rest

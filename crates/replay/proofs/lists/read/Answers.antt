@@ -1,30 +1,16 @@
-use Rattle.replay.proofs.Entries.{entered_first, entered_next, entered_last, entered_end, none_read}
-use Rattle.std.proofs.Common.{sym, ◌∙◌, rules}
+use Rattle.std.proofs.Common.{◌≡◌, rules, map, false, ap, ◌∙◌}
+use Rattle.std.specs.Result.{IfOk}
+use Rattle.std.specs.Slice.Iter.{split_rest, split_done, split_callee}
+use Rattle.std.proofs.lemmas.Iterator.{items_from_collect, YieldsList-from_map}
+use Rattle.std.proofs.lemmas.Iterator.Splits.{YieldsList-from_slice_split}
+use lib.Dec.{eqb}
+use Rattle.replay.specs.Words.{number_of}
+use Rattle.replay.specs.Lists.{pieces, is_none}
 use Rattle.replay.proofs.lists.read.Goals as goal
-
-pub returns-then-same : goal.returns-then-same
-returns-then-same c =
-    let e = none_read _ _ (sym c.same.ensures ∙ c.if-same.true) in
-    record { value = e.0; buf_after = e.1.0; prefix_len = e.1.1 }
-
-pub loop-i-init : goal.loop-i-init
-loop-i-init c = entered_first _ _
-
-pub piece_at-piece-requires : goal.piece_at-piece-requires
-piece_at-piece-requires c = c.loop-i.invariant.within
-
-pub overflow_sub-word : goal.overflow_sub-word
-overflow_sub-word c = c.loop-i.invariant.within
-
-pub returns-then-word-at : goal.returns-then-word-at
-returns-then-word-at c =
-    let e = entered_last c.loop-i.invariant (search rules) c.piece_at-piece.ensures c.number.ensures (sym c.same.ensures ∙ c.if-same.false) c.if-word-at.true in
-    record { value = e.0; buf_after = e.1.0; prefix_len = e.1.1 }
-
-pub loop-i-preserved : goal.loop-i-preserved
-loop-i-preserved c = entered_next c.loop-i.invariant (search rules) c.piece_at-piece.ensures c.number.ensures c.if-word-at.false
 
 pub returns : goal.returns
 returns c =
-    let e = entered_end c.loop-i.invariant (sym c.same.ensures ∙ c.if-same.false) (search rules) in
-    record { value = e.0; buf_after = e.1.0; prefix_len = e.1.1 }
+    let n : is_none c.args.word.now ≡ false = search rules in
+    let h : IfOk c.collect.result (λ v. v.items ≡ map number_of (pieces c.args.word.now)) =
+    items_from_collect c.collect.result c.collect.ensures.ran (YieldsList-from_map _ number_of (YieldsList-from_slice_split _ (λ b. eqb b 44) c.args.word.now (ap split_rest c.map.ensures.source ∙ c.split.ensures.rest) (ap split_done c.map.ensures.source ∙ c.split.ensures.done) (ap split_callee c.map.ensures.source ∙ c.split.ensures.closure) (λ x b q k. search rules)) c.map.ensures.closure (λ x r q k. search rules)) in
+    rw n h

@@ -1,9 +1,6 @@
 use Rattle.replay.specs.Words.{ended}
-use Rattle.std.proofs.Common.{◌≡◌, ◌-◌, ◌≤◌, length}
+use Rattle.std.proofs.Common.{◌≡◌, ◌≤◌, length}
 use Rattle.replay.proofs.words.after.Given as goal
 
-abbrev pub invariant-loop-i : goal.invariant-loop-i
-invariant-loop-i l = (l.at ≡ ended l.line l.i) × ((l.at ≤ length l.line) × (l.i ≤ l.k))
-
-abbrev pub decreases-loop-i : goal.decreases-loop-i
-decreases-loop-i l = l.k - l.i
+abbrev pub invariant-loop : goal.invariant-loop
+invariant-loop l = record { passed : l.at ≡ ended l.line l.counter; within : l.at ≤ length l.line }

@@ -1,11 +1,10 @@
-use Rattle.scale.proofs.Levels.{together_first, together_turn, together_end}
+use Rattle.std.proofs.Common.{◌≡◌, rules, ap, ◌∙◌, bit_or}
+use Rattle.std.specs.Prelude.{fold}
+use Rattle.scale.specs.Physical.{has_level}
+use Rattle.scale.proofs.Levels.{together}
 use Rattle.scale.proofs.physical.have_levels.Goals as goal
 
-pub loop-i-init : goal.loop-i-init
-loop-i-init c = together_first _
-
-pub loop-i-preserved : goal.loop-i-preserved
-loop-i-preserved c = together_turn c.loop-i.invariant c.loop-i-test.true
-
 pub returns : goal.returns
-returns c = together_end c.loop-i.invariant c.loop-i-test.false
+returns c =
+    let f : c.fold.result ≡ fold bit_or 0 c.args.codes.now = search rules in
+    ap has_level f ∙ together 0 c.args.codes.now

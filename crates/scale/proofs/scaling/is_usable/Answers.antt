@@ -1,12 +1,8 @@
-use lib.Ieee.{of_bits, ne}
+use Rattle.std.proofs.Common.{sym}
 use Rattle.wire.specs.Float.{f32}
-use mathlib.Core.Path.{sym}
-use lib.Ieee.{of_bits}
+use lib.Ieee.{of_bits, ne}
 use Rattle.scale.proofs.scaling.is_usable.Goals as goal
 
 pub returns-then-is_finite : goal.returns-then-is_finite
 unfolding of_bits f32 ne
 returns-then-is_finite c = simp (sym c.is_finite.ensures, c.if-is_finite.true)
-
-pub returns-else-is_finite : goal.returns-else-is_finite
-returns-else-is_finite c = simp (sym c.is_finite.ensures, c.if-is_finite.false)

@@ -1,9 +1,5 @@
-use Rattle.std.proofs.Common.{◌-◌, length}
 use Rattle.show.proofs.Digits.{Reading}
 use Rattle.show.proofs.words.number_from.Given as goal
 
-abbrev pub invariant-loop-i : goal.invariant-loop-i
-invariant-loop-i l = Reading l.n l.text l.value l.i
-
-abbrev pub decreases-loop-i : goal.decreases-loop-i
-decreases-loop-i l = length l.text - l.i
+abbrev pub invariant-loop-b : goal.invariant-loop-b
+invariant-loop-b l = Reading l.n l.text l.value l.b-index

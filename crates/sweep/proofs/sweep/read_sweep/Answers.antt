@@ -1,55 +1,33 @@
-use Rattle.sweep.proofs.Reading.{head_refused, body_refused, Decoded, drawn_here, fill_accepts, read}
-use Rattle.sweep.specs.Sweep.{head_read_of}
-use Rattle.symbology.specs.Answers.{figures_of}
-use Rattle.scale.specs.Outcome.{filled_of}
-use lib.Seq.{length-take-le}
+use mathlib.Core.Path.{refl, sym}
 use native.Mathlib.Omega.{arith}
-use mathlib.Core.Path.{refl, sym, ap, ◌∙◌}
-use Rattle.scale.specs.Physical.{declared_scale}
+use lib.Seq.{length-take-le}
 use borrow.Author.Rules.{rules}
+use Rattle.wire.proofs.Results.{returned}
+use Rattle.sweep.proofs.Reading.{head_refused, body_refused, decoded, drawn_here, fill_accepts, read}
 use Rattle.sweep.proofs.sweep.read_sweep.Goals as goal
 
-pub returns-in-Refused : goal.returns-in-Refused
-returns-in-Refused c = head_refused _ _ _ _ _ _ _ (ap head_read_of (sym c.in-Refused.is) ∙ c.read_head.ensures)
+pub returns-in_err-head : goal.returns-in_err-head
+returns-in_err-head c = rw (returned c.from_residual.ensures.1) (head_refused _ _ _ _ _ _ _ c.in_err-head.ensures)
 
-pub returns-in-Refused-decode_for : goal.returns-in-Refused-decode_for
-returns-in-Refused-decode_for c = body_refused _ _ _ _ c.args.azimuths.now c.args.codes.now c.args.physical.now c.in-Value.h (declared_scale c.in-Value.h.scaling) c.terms_for-terms.result (ap head_read_of (sym c.in-Value.is) ∙ c.read_head.ensures) refl c.terms_for-terms.ensures c.in-Refused-decode_for.is c.decode_for.ensures
+pub returns-in_err-figures : goal.returns-in_err-figures
+returns-in_err-figures c =
+    rw (returned c.from_residual-in_err-figures.ensures.1)
+    (body_refused _ _ _ _ _ _ _ c.in_ok-head.head _ c.terms_for-terms.result c.in_ok-head.ensures refl c.terms_for-terms.ensures c.in_err-figures.ensures)
 
 pub overflow_mul-cells : goal.overflow_mul-cells
-overflow_mul-cells c =
-    let here : Decoded c.args.scheme c.args.file.now c.args.clock c.args.body.now c.args.azimuths.now c.args.codes.now c.args.physical.now c.in-Value.h (declared_scale c.in-Value.h.scaling) c.terms_for-terms.result c.in-Value-decode_for.f = record {
-      head_is = ap head_read_of (sym c.in-Value.is) ∙ c.read_head.ensures;
-      declared_is = refl;
-      terms_are = c.terms_for-terms.ensures;
-      figures_are = ap figures_of (sym c.in-Value-decode_for.is) ∙ c.decode_for.ensures.answered;
-    } in record { fits = omega (arith, (drawn_here here).admitted.codes_room) }
+overflow_mul-cells c = record { fits = omega (arith, (drawn_here (decoded c.in_ok-head.ensures c.terms_for-terms.ensures c.in_ok-figures.ensures.answered)).admitted.codes_room) }
 
 pub slice_bounds-fill_physical-end : goal.slice_bounds-fill_physical-end
-slice_bounds-fill_physical-end c =
-    let here : Decoded c.args.scheme c.args.file.now c.args.clock c.args.body.now c.args.azimuths.now c.args.codes.now c.args.physical.now c.in-Value.h (declared_scale c.in-Value.h.scaling) c.terms_for-terms.result c.in-Value-decode_for.f = record {
-      head_is = ap head_read_of (sym c.in-Value.is) ∙ c.read_head.ensures;
-      declared_is = refl;
-      terms_are = c.terms_for-terms.ensures;
-      figures_are = ap figures_of (sym c.in-Value-decode_for.is) ∙ c.decode_for.ensures.answered;
-    } in search (rules, (drawn_here here).admitted.codes_room)
+slice_bounds-fill_physical-end c = search (rules, (drawn_here (decoded c.in_ok-head.ensures c.terms_for-terms.ensures c.in_ok-figures.ensures.answered)).admitted.codes_room)
 
 pub slice_bounds-fill_physical-end-2 : goal.slice_bounds-fill_physical-end-2
 slice_bounds-fill_physical-end-2 c = sym (length-take-le _ _ (slice_bounds-fill_physical-end c))
 
-pub returns-in-Refused-fill_physical : goal.returns-in-Refused-fill_physical
-returns-in-Refused-fill_physical c =
-    let here : Decoded c.args.scheme c.args.file.now c.args.clock c.args.body.now c.args.azimuths.now c.args.codes.now c.args.physical.now c.in-Value.h (declared_scale c.in-Value.h.scaling) c.terms_for-terms.result c.in-Value-decode_for.f = record {
-      head_is = ap head_read_of (sym c.in-Value.is) ∙ c.read_head.ensures;
-      declared_is = refl;
-      terms_are = c.terms_for-terms.ensures;
-      figures_are = ap figures_of (sym c.in-Value-decode_for.is) ∙ c.decode_for.ensures.answered;
-    } in fill_accepts here c.decode_for.ensures.codes (ap filled_of (sym c.in-Refused-fill_physical.is) ∙ c.fill_physical.ensures.result_value)
+pub returns-in_err-fill_physical : goal.returns-in_err-fill_physical
+returns-in_err-fill_physical c =
+    fill_accepts (decoded c.in_ok-head.ensures c.terms_for-terms.ensures c.in_ok-figures.ensures.answered) c.in_ok-figures.ensures.codes c.in_err-fill_physical.ensures.result_value
 
 pub returns : goal.returns
 returns c =
-    let here : Decoded c.args.scheme c.args.file.now c.args.clock c.args.body.now c.args.azimuths.now c.args.codes.now c.args.physical.now c.in-Value.h (declared_scale c.in-Value.h.scaling) c.terms_for-terms.result c.in-Value-decode_for.f = record {
-      head_is = ap head_read_of (sym c.in-Value.is) ∙ c.read_head.ensures;
-      declared_is = refl;
-      terms_are = c.terms_for-terms.ensures;
-      figures_are = ap figures_of (sym c.in-Value-decode_for.is) ∙ c.decode_for.ensures.answered;
-    } in read here c.decode_for.ensures.codes c.answer_of.ensures c.decode_for.ensures.azimuths c.fill_physical.ensures.physical_after
+    read (decoded c.in_ok-head.ensures c.terms_for-terms.ensures c.in_ok-figures.ensures.answered) c.in_ok-figures.ensures.codes c.accepted.ensures
+    c.in_ok-figures.ensures.azimuths c.in_ok-fill_physical.ensures.physical_after

@@ -1,20 +1,15 @@
-use Rattle.symbology.proofs.CursorLaws.{compared_first, compared_end, compared_over, compared_short, compared_not, compared_turn}
+use Rattle.std.proofs.Common.{◌≡◌, ap, ◌∙◌}
+use Rattle.std.proofs.lemmas.Iterator.{YieldsList-from_take}
+use Rattle.std.proofs.lemmas.Iterator.Consumers.{YieldsList-from_first}
+use Rattle.symbology.specs.Rows.{cells}
+use Rattle.symbology.specs.Cursors.{ahead}
+use Rattle.symbology.specs.declared.alike.Cells.{Cells}
+use Rattle.symbology.proofs.CursorLaws.{eq_of_lists}
 use Rattle.symbology.proofs.alike.same_runs.Goals as goal
 
-pub loop-left-init : goal.loop-left-init
-loop-left-init c = compared_first _ _ _
-
-pub returns-then-x-eq0 : goal.returns-then-x-eq0
-returns-then-x-eq0 c = compared_over c.loop-left.invariant c.loop-left-test.true _ _ _ _ _ _ c.run_from-x.ensures.colour_value c.run_from-x.ensures.colour_value_2 c.run_from-y.ensures.colour_value c.run_from-y.ensures.colour_value_2 c.if-x-eq0.true
-
-pub returns-then-y-eq0 : goal.returns-then-y-eq0
-returns-then-y-eq0 c = compared_short c.loop-left.invariant c.loop-left-test.true _ _ _ _ _ _ c.run_from-x.ensures.colour_value c.run_from-x.ensures.colour_value_2 c.run_from-y.ensures.colour_value c.run_from-y.ensures.colour_value_2 c.if-x-eq0.false c.if-y-eq0.true
-
-pub returns-then-x-y : goal.returns-then-x-y
-returns-then-x-y c = compared_not c.loop-left.invariant c.loop-left-test.true _ _ _ _ _ _ c.run_from-x.ensures.colour_value c.run_from-x.ensures.colour_value_2 c.run_from-y.ensures.colour_value c.run_from-y.ensures.colour_value_2 c.if-x-eq0.false c.if-y-eq0.false c.if-x-y.true
-
-pub loop-left-preserved : goal.loop-left-preserved
-loop-left-preserved c = compared_turn c.loop-left.invariant c.loop-left-test.true _ _ _ _ _ _ c.run_from-x.ensures.colour_value c.run_from-x.ensures.colour_value_2 c.run_from-y.ensures.colour_value c.run_from-y.ensures.colour_value_2 c.if-x-eq0.false c.if-y-eq0.false c.if-x-y.false
-
 pub returns : goal.returns
-returns c = compared_end c.loop-left.invariant c.loop-left-test.false
+returns c =
+    let left = λ (s : Cells). ahead s.left s.colour s.runs.now in
+    eq_of_lists (λ x y. y ≡ x) c.take-2.result c.eq.result c.eq.ensures.ran
+    (YieldsList-from_take c.args.n (YieldsList-from_first (λ x. x) left (cells c.args.a.now) (ap left c.take.ensures.source ∙ c.cells_of.ensures)) c.take.ensures.count)
+    (λ it e. YieldsList-from_take c.args.n (YieldsList-from_first (λ x. x) left (cells c.args.b.now) (ap (λ t. left t.iter) e ∙ ap left c.take-2.ensures.source ∙ c.cells_of-2.ensures)) (ap (λ t. t.n) e ∙ c.take-2.ensures.count))

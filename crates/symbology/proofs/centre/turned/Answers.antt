@@ -1,15 +1,11 @@
 use lib.Ieee.{div, of_bits}
 use Rattle.wire.specs.Float.{f64}
-use Rattle.std.proofs.Common.{rules}
-use Rattle.wire.proofs.Patterns.{no_nan}
+use Rattle.std.proofs.Common.{rules, sym, ◌∙◌}
 use Rattle.symbology.proofs.Remainder.{nan_stays, infinite, small, middle, large}
 use Rattle.symbology.proofs.centre.turned.Goals as goal
 
-pub returns-then-x : goal.returns-then-x
-returns-then-x c = nan_stays _ _ c.if-x.true
-
-pub float_to_bits-bits : goal.float_to_bits-bits
-float_to_bits-bits c = no_nan _ c.if-x.false
+pub returns-then-is_nan : goal.returns-then-is_nan
+returns-then-is_nan c = nan_stays _ _ (sym c.is_nan.ensures.value ∙ c.if-is_nan.true)
 
 pub returns-then-field-eq2047 : goal.returns-then-field-eq2047
 unfolding div of_bits

@@ -1,34 +1,57 @@
-use Rattle.symbology.specs.Symbology.{Gates28, component_head}
-use Rattle.xdr.proofs.Lists.{go_on, go_by, check_as, from_give, from_passed}
-use Rattle.xdr.specs.Answers.{step_of}
-use Rattle.xdr.specs.Xdr.{at_least0}
-use Rattle.wire.specs.Reading.{passed, onward, reached}
-use Rattle.std.proofs.Common.{◌≡◌, not, eqb, pos, sym, refl, ap, ◌∙◌, to_z-of_z, w32, rules}
-use lib.Signed.{le_z, lt_z}
+use Rattle.std.proofs.Common.{rules, arith, refl, sym, ap, ◌∙◌, ◌*◌, ◌≤◌, ◌<◌, mul-le-mul, to_z-of_z, w32, lt-ltb, le-ltb, Some, None}
+use Rattle.wire.proofs.Results.{returned}
+use Rattle.wire.specs.Reading.{give, ◌>>◌}
+use Rattle.wire.specs.declared.error.XdrItem.TheVariants as Item
+use Rattle.xdr.specs.Xdr as Xdr
+use Rattle.xdr.specs.Xdr.{pass, int, string, array_count, at_least0, counted, parameter}
+use Rattle.xdr.proofs.Chains.{given, go_on, go_no, by_on, by_no, past_on, past_no, let_on, let_no}
+use Rattle.std.proofs.Common.{◌≡◌, ℕ, Bool, true, false, not, eqb, [], ◌∷◌, eq-eqb, ne_eqb}
+use Rattle.wire.specs.Refusal.{kind, nat, whole}
+use Rattle.symbology.specs.Symbology.{component_head}
 use Rattle.symbology.proofs.generic.component_head.Goals as goal
+
+kind_right : {n m : ℕ} → n ≡ m → n ≡ 1 → not (eqb m 1) ≡ false
+kind_right e h = ap not (eq-eqb _ _ (sym e ∙ h))
+
+kind_wrong : {n m : ℕ} → n ≡ m → (n ≡ 1 → ⊥) → not (eqb m 1) ≡ true
+kind_wrong e h = ap not (ne_eqb _ _ (λ q. h (e ∙ q)))
+
+pub returns-in_err-kind : goal.returns-in_err-kind
+unfolding component_head
+returns-in_err-kind c = rw (returned c.from_residual.ensures.1) (go_no int _ c.in_err-kind.ensures)
+
+pub returns-then-at_least_0-ne-RADIAL_COMPONENT_TYPE : goal.returns-then-at_least_0-ne-RADIAL_COMPONENT_TYPE
+unfolding component_head
+returns-then-at_least_0-ne-RADIAL_COMPONENT_TYPE c = go_on int _ c.in_ok-kind.ensures (let_no _ _ (kind_wrong (c.at_least_0.ensures.0 ∙ ap at_least0 (to_z-of_z {w = w32} {z = c.in_ok-kind.kind} (search rules))) c.if-at_least_0-ne-RADIAL_COMPONENT_TYPE.true) (ap (λ z. kind 27 (whole z ∷ [])) (to_z-of_z {w = w32} {z = c.in_ok-kind.kind} (search rules))))
+
+pub returns-in_err-skip_string : goal.returns-in_err-skip_string
+unfolding component_head
+returns-in_err-skip_string c = rw (returned c.from_residual-in_err-skip_string.ensures.1) (go_on int _ c.in_ok-kind.ensures (let_on _ _ (kind_right (c.at_least_0.ensures.0 ∙ ap at_least0 (to_z-of_z {w = w32} {z = c.in_ok-kind.kind} (search rules))) c.if-at_least_0-ne-RADIAL_COMPONENT_TYPE.false) (by_no string _ c.in_err-skip_string.ensures)))
+
+pub returns-in_err-gate_width : goal.returns-in_err-gate_width
+unfolding component_head
+returns-in_err-gate_width c = rw (returned c.from_residual-in_err-gate_width.ensures.1) (go_on int _ c.in_ok-kind.ensures (let_on _ _ (kind_right (c.at_least_0.ensures.0 ∙ ap at_least0 (to_z-of_z {w = w32} {z = c.in_ok-kind.kind} (search rules))) c.if-at_least_0-ne-RADIAL_COMPONENT_TYPE.false) (by_on string _ c.in_ok-skip_string.ensures (go_no Xdr.float _ c.in_err-gate_width.ensures))))
+
+pub returns-in_err-first_gate : goal.returns-in_err-first_gate
+unfolding component_head
+returns-in_err-first_gate c = rw (returned c.from_residual-in_err-first_gate.ensures.1) (go_on int _ c.in_ok-kind.ensures (let_on _ _ (kind_right (c.at_least_0.ensures.0 ∙ ap at_least0 (to_z-of_z {w = w32} {z = c.in_ok-kind.kind} (search rules))) c.if-at_least_0-ne-RADIAL_COMPONENT_TYPE.false) (by_on string _ c.in_ok-skip_string.ensures (go_on Xdr.float _ c.in_ok-gate_width.ensures (go_no Xdr.float _ c.in_err-first_gate.ensures)))))
+
+pub returns-in_err-skip_parameters : goal.returns-in_err-skip_parameters
+unfolding component_head
+returns-in_err-skip_parameters c = rw (returned c.from_residual-in_err-skip_parameters.ensures.1) (go_on int _ c.in_ok-kind.ensures (let_on _ _ (kind_right (c.at_least_0.ensures.0 ∙ ap at_least0 (to_z-of_z {w = w32} {z = c.in_ok-kind.kind} (search rules))) c.if-at_least_0-ne-RADIAL_COMPONENT_TYPE.false) (by_on string _ c.in_ok-skip_string.ensures (go_on Xdr.float _ c.in_ok-gate_width.ensures (go_on Xdr.float _ c.in_ok-first_gate.ensures (past_no (counted parameter) _ c.in_err-skip_parameters.ensures))))))
+
+pub returns-in_err-num_rads : goal.returns-in_err-num_rads
+unfolding component_head
+returns-in_err-num_rads c = rw (returned c.from_residual-in_err-num_rads.ensures.1) (go_on int _ c.in_ok-kind.ensures (let_on _ _ (kind_right (c.at_least_0.ensures.0 ∙ ap at_least0 (to_z-of_z {w = w32} {z = c.in_ok-kind.kind} (search rules))) c.if-at_least_0-ne-RADIAL_COMPONENT_TYPE.false) (by_on string _ c.in_ok-skip_string.ensures (go_on Xdr.float _ c.in_ok-gate_width.ensures (go_on Xdr.float _ c.in_ok-first_gate.ensures (past_on (counted parameter) _ c.in_ok-skip_parameters.ensures (go_no int _ c.in_err-num_rads.ensures)))))))
+
+pub returns-then-num_rads-le0 : goal.returns-then-num_rads-le0
+unfolding component_head
+returns-then-num_rads-le0 c = go_on int _ c.in_ok-kind.ensures (let_on _ _ (kind_right (c.at_least_0.ensures.0 ∙ ap at_least0 (to_z-of_z {w = w32} {z = c.in_ok-kind.kind} (search rules))) c.if-at_least_0-ne-RADIAL_COMPONENT_TYPE.false) (by_on string _ c.in_ok-skip_string.ensures (go_on Xdr.float _ c.in_ok-gate_width.ensures (go_on Xdr.float _ c.in_ok-first_gate.ensures (past_on (counted parameter) _ c.in_ok-skip_parameters.ensures (go_on int _ c.in_ok-num_rads.ensures (let_no _ _ (rw (to_z-of_z {w = w32} {z = c.in_ok-num_rads.num_rads} (search rules)) at c.if-num_rads-le0.true) (ap (λ z. kind 29 (whole z ∷ nat 0 ∷ [])) (to_z-of_z {w = w32} {z = c.in_ok-num_rads.num_rads} (search rules))))))))))
+
+pub returns-then-num_rads-gt-MAX_XDR_RADIALS : goal.returns-then-num_rads-gt-MAX_XDR_RADIALS
+unfolding component_head
+returns-then-num_rads-gt-MAX_XDR_RADIALS c = go_on int _ c.in_ok-kind.ensures (let_on _ _ (kind_right (c.at_least_0.ensures.0 ∙ ap at_least0 (to_z-of_z {w = w32} {z = c.in_ok-kind.kind} (search rules))) c.if-at_least_0-ne-RADIAL_COMPONENT_TYPE.false) (by_on string _ c.in_ok-skip_string.ensures (go_on Xdr.float _ c.in_ok-gate_width.ensures (go_on Xdr.float _ c.in_ok-first_gate.ensures (past_on (counted parameter) _ c.in_ok-skip_parameters.ensures (go_on int _ c.in_ok-num_rads.ensures (let_on _ _ (rw (to_z-of_z {w = w32} {z = c.in_ok-num_rads.num_rads} (search rules)) at c.if-num_rads-le0.false) (let_no _ _ (rw (to_z-of_z {w = w32} {z = c.in_ok-num_rads.num_rads} (search rules)) at c.if-num_rads-gt-MAX_XDR_RADIALS.true) (ap (λ z. kind 30 (whole z ∷ nat 100000 ∷ [])) (to_z-of_z {w = w32} {z = c.in_ok-num_rads.num_rads} (search rules)))))))))))
 
 pub returns : goal.returns
 unfolding component_head
-returns c =
-    let k = c.int_after-k.result.value in
-    let v = c.int_after-m.result.value in
-    let zk = to_z-of_z {w = w32} {z = k} (search (rules, c.int_after-k.type_inv)) in
-    let zv = to_z-of_z {w = w32} {z = v} (search rules) in
-    let m : c.at_least_0-n_radials.result ≡ at_least0 v = c.at_least_0-n_radials.ensures.0 ∙ ap at_least0 zv in
-    let t : not (eqb c.at_least_0.result 1) ≡ not (eqb (at_least0 k) 1) = rw (c.at_least_0.ensures.0, zk) refl in
-    let h : ◌≡◌ {A = Gates28} (record { radials = c.at_least_0-n_radials.result; gate_width = c.float_after-g.result.value; first_gate = c.float_after-f.result.value })
-    (record { radials = at_least0 v; gate_width = c.float_after-g.result.value; first_gate = c.float_after-f.result.value }) = rw m refl in
-    c.gates_read.ensures
-    ∙ ap reached
-    (ap (λ x. onward (step_of c.refuse_if-t8.result) (λ _ p. passed x p)) h
-    ∙ go_on _ _ _ _ _ c.int_after-k.ensures
-    (check_as _ _ _ _ _ t (rw zk refl) c.refuse_if-t1.ensures
-    (go_by _ _ _ _ c.skip_string-t2.ensures
-    (go_on _ _ _ _ _ c.float_after-g.ensures
-    (go_on _ _ _ _ _ c.float_after-f.ensures
-    (go_by _ _ _ _ c.skip_parameters-t5.ensures
-    (go_on _ _ _ _ _ c.int_after-m.ensures
-    (check_as _ _ _ _ _ (ap (λ x. le_z x (pos 0)) zv) (rw zv refl) c.refuse_if-t7.ensures
-    (check_as _ _ _ _ _ (ap (λ x. lt_z (pos 100000) x) zv) (rw zv refl) c.refuse_if-t8.ensures
-    (from_give _ _ _)))))))))
-    ∙ sym (from_passed _ _ _))
+returns c = go_on int _ c.in_ok-kind.ensures (let_on _ _ (kind_right (c.at_least_0.ensures.0 ∙ ap at_least0 (to_z-of_z {w = w32} {z = c.in_ok-kind.kind} (search rules))) c.if-at_least_0-ne-RADIAL_COMPONENT_TYPE.false) (by_on string _ c.in_ok-skip_string.ensures (go_on Xdr.float _ c.in_ok-gate_width.ensures (go_on Xdr.float _ c.in_ok-first_gate.ensures (past_on (counted parameter) _ c.in_ok-skip_parameters.ensures (go_on int _ c.in_ok-num_rads.ensures (let_on _ _ (rw (to_z-of_z {w = w32} {z = c.in_ok-num_rads.num_rads} (search rules)) at c.if-num_rads-le0.false) (let_on _ _ (rw (to_z-of_z {w = w32} {z = c.in_ok-num_rads.num_rads} (search rules)) at c.if-num_rads-gt-MAX_XDR_RADIALS.false) (given (ap (λ n. record { radials = n; gate_width = c.in_ok-gate_width.gate_width; first_gate = c.in_ok-first_gate.first_gate }) (c.at_least_0-radials.ensures.0 ∙ ap at_least0 (to_z-of_z {w = w32} {z = c.in_ok-num_rads.num_rads} (search rules)))))))))))))

@@ -1,37 +1,43 @@
-use Rattle.symbology.specs.Walk.{expected_of, frame_tested}
-use Rattle.xdr.specs.Answers.{step_of}
-use Rattle.wire.specs.Reading.{passed, onward}
-use Rattle.symbology.specs.Centre.{centre28}
-use Rattle.symbology.specs.Symbology.{XdrRadial, xdr_frame}
-use Rattle.symbology.proofs.XdrFrames.{xdr_radial_then_lem, frame_checked}
-use Rattle.xdr.proofs.Lists.{go_on, go_by, from_give}
-use Rattle.xdr.specs.Xdr.{at_least0}
-use Rattle.std.proofs.Common.{◌≡◌, ◌*◌, refl, ap, ◌∙◌, to_z-of_z, w32, rules}
+use Rattle.std.proofs.Common.{rules, ap₂, arith, refl, sym, ap, ◌∙◌, ◌*◌, ◌≤◌, ◌<◌, mul-le-mul, to_z-of_z, w32, lt-ltb, le-ltb, Some, None}
+use Rattle.wire.proofs.Results.{returned}
+use Rattle.wire.specs.Reading.{give, ◌>>◌}
+use Rattle.wire.specs.declared.error.XdrItem.TheVariants as Item
+use Rattle.xdr.specs.Xdr as Xdr
+use Rattle.xdr.specs.Xdr.{pass, int, string, array_count, at_least0, counted, parameter}
+use Rattle.xdr.proofs.Chains.{given, go_on, go_no, by_on, by_no, past_on, past_no, let_on, let_no}
+use Rattle.symbology.specs.Symbology.{xdr_frame}
+use Rattle.symbology.specs.Walk.{expected_of}
+use Rattle.symbology.proofs.XdrFrames.{tests_no, tests_on}
 use Rattle.symbology.proofs.generic.xdr_frame.Goals as goal
+
+pub returns-in_err-azimuth : goal.returns-in_err-azimuth
+unfolding xdr_frame
+returns-in_err-azimuth c = rw (returned c.from_residual.ensures.1) (go_no Xdr.float _ c.in_err-azimuth.ensures)
+
+pub returns-in_err-skip : goal.returns-in_err-skip
+unfolding xdr_frame
+returns-in_err-skip c = rw (returned c.from_residual-in_err-skip.ensures.1) (go_on Xdr.float _ c.in_ok-azimuth.ensures (by_no (pass Item.Float 4) _ c.in_err-skip.ensures))
+
+pub returns-in_err-width : goal.returns-in_err-width
+unfolding xdr_frame
+returns-in_err-width c = rw (returned c.from_residual-in_err-width.ensures.1) (go_on Xdr.float _ c.in_ok-azimuth.ensures (by_on (pass Item.Float 4) _ c.in_ok-skip.ensures (go_no Xdr.float _ c.in_err-width.ensures)))
+
+pub returns-in_err-num_bins : goal.returns-in_err-num_bins
+unfolding xdr_frame
+returns-in_err-num_bins c = rw (returned c.from_residual-in_err-num_bins.ensures.1) (go_on Xdr.float _ c.in_ok-azimuth.ensures (by_on (pass Item.Float 4) _ c.in_ok-skip.ensures (go_on Xdr.float _ c.in_ok-width.ensures (go_no int _ c.in_err-num_bins.ensures))))
+
+pub returns-in_err-skip_string : goal.returns-in_err-skip_string
+unfolding xdr_frame
+returns-in_err-skip_string c = rw (returned c.from_residual-in_err-skip_string.ensures.1) (go_on Xdr.float _ c.in_ok-azimuth.ensures (by_on (pass Item.Float 4) _ c.in_ok-skip.ensures (go_on Xdr.float _ c.in_ok-width.ensures (go_on int _ c.in_ok-num_bins.ensures (by_no string _ c.in_err-skip_string.ensures)))))
+
+pub returns-in_err-declared : goal.returns-in_err-declared
+unfolding xdr_frame
+returns-in_err-declared c = rw (returned c.from_residual-in_err-declared.ensures.1) (go_on Xdr.float _ c.in_ok-azimuth.ensures (by_on (pass Item.Float 4) _ c.in_ok-skip.ensures (go_on Xdr.float _ c.in_ok-width.ensures (go_on int _ c.in_ok-num_bins.ensures (by_on string _ c.in_ok-skip_string.ensures (go_no array_count _ c.in_err-declared.ensures))))))
+
+pub returns-in_err-test_frame : goal.returns-in_err-test_frame
+unfolding xdr_frame
+returns-in_err-test_frame c = rw (returned c.from_residual-in_err-test_frame.ensures.1) (go_on Xdr.float _ c.in_ok-azimuth.ensures (by_on (pass Item.Float 4) _ c.in_ok-skip.ensures (go_on Xdr.float _ c.in_ok-width.ensures (go_on int _ c.in_ok-num_bins.ensures (by_on string _ c.in_ok-skip_string.ensures (go_on array_count _ c.in_ok-declared.ensures (tests_no _ _ _ c.args.expected _ _ (rw (to_z-of_z {w = w32} {z = c.in_ok-num_bins.num_bins} (search rules)) at (c.in_err-test_frame.ensures c.array_count.new.self.pos)))))))))
 
 pub returns : goal.returns
 unfolding xdr_frame
-returns c =
-    let v = c.int_after-b.result.value in
-    let n = c.array_count_after-d.result.value in
-    let bins = c.at_least_0-bins.result in
-    let other = c.expected_of-other.result in
-    let cells = c.cells_of-cells.result in
-    let radials = c.args.n_radials in
-    let r = c.args.r in
-    let z = to_z-of_z {w = w32} {z = v} (search rules) in
-    let m : bins ≡ at_least0 v = c.at_least_0-bins.ensures.0 ∙ ap at_least0 z in
-    let o : other ≡ expected_of c.args.first c.args.expected (at_least0 v) = c.expected_of-other.ensures ∙ ap (expected_of c.args.first c.args.expected) m in
-    let k : cells ≡ radials * at_least0 v = c.cells_of-cells.ensures ∙ ap (λ x. radials * x) m in
-    let t : step_of c.test_frame-t7.result ≡ onward (step_of c.array_count_after-d.result.then) (λ _ p. frame_tested radials r v (at_least0 v) (expected_of c.args.first c.args.expected (at_least0 v)) n (radials * at_least0 v) p) = c.test_frame-t7.ensures ∙ rw (z, o, k, m) refl in
-    let q : ◌≡◌ {A = XdrRadial} (record { centre = c.azimuth_centre_28.result; bins = bins }) (record { centre = centre28 c.float_after-a.result.value c.float_after-w.result.value; bins = at_least0 v }) = rw (c.azimuth_centre_28.ensures, m) refl in
-    xdr_radial_then_lem c.azimuth_centre_28.result bins c.test_frame-t7.result
-    ∙ ap (λ x. onward (step_of c.test_frame-t7.result) (λ _ p. passed x p)) q
-    ∙ go_on _ _ _ _ _ c.float_after-a.ensures
-    (go_by _ _ _ _ c.skip_word-t2.ensures
-    (go_on _ _ _ _ _ c.float_after-w.ensures
-    (go_on _ _ _ _ _ c.int_after-b.ensures
-    (go_by _ _ _ _ c.skip_string-t5.ensures
-    (go_on _ _ _ _ _ c.array_count_after-d.ensures
-    (frame_checked radials r v (expected_of c.args.first c.args.expected (at_least0 v)) n _ c.args.buf.now (step_of c.array_count_after-d.result.then) t
-    (from_give _ _ _)))))))
+returns c = go_on Xdr.float _ c.in_ok-azimuth.ensures (by_on (pass Item.Float 4) _ c.in_ok-skip.ensures (go_on Xdr.float _ c.in_ok-width.ensures (go_on int _ c.in_ok-num_bins.ensures (by_on string _ c.in_ok-skip_string.ensures (go_on array_count _ c.in_ok-declared.ensures (tests_on _ _ _ c.args.expected _ _ (rw (to_z-of_z {w = w32} {z = c.in_ok-num_bins.num_bins} (search rules)) at (c.in_ok-test_frame.ensures c.array_count.new.self.pos)) (given (ap₂ (λ a n. record { centre = a; bins = n }) c.azimuth_centre_28-centre.ensures (c.at_least_0-bins.ensures.0 ∙ ap at_least0 (to_z-of_z {w = w32} {z = c.in_ok-num_bins.num_bins} (search rules)))))))))))

@@ -1,9 +1,8 @@
+use Rattle.std.proofs.Common.{◌≡◌, take}
+use Rattle.wire.specs.Text.{all}
+use Rattle.symbology.specs.Rows.{words, is_level}
 use Rattle.symbology.proofs.LowFirst.{upper_clear}
-use Rattle.symbology.proofs.LevelLoops.{Tested}
 use Rattle.symbology.proofs.rows.all_levels.Given as goal
 
-abbrev pub invariant-loop-left : goal.invariant-loop-left
-invariant-loop-left l = Tested l.buf (upper_clear l.bits) l.i l.left
-
-abbrev pub decreases-loop-left : goal.decreases-loop-left
-decreases-loop-left l = l.left
+abbrev pub invariant-loop-int : goal.invariant-loop-int
+invariant-loop-int l = upper_clear l.bits ≡ all is_level (take l.int-index (words l.data))

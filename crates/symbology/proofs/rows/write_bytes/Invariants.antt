@@ -1,9 +1,5 @@
-use Rattle.std.proofs.Common.{◌-◌, ◌≤◌, length, take}
-use Rattle.symbology.proofs.Stores.{Stored}
+use Rattle.std.proofs.Common.{◌≡◌, take}
 use Rattle.symbology.proofs.rows.write_bytes.Given as goal
 
-abbrev pub invariant-loop-row : goal.invariant-loop-row
-invariant-loop-row l = (l.i ≤ length l.initial.row) × Stored (length l.initial.row) (take (length l.initial.row) l.src) l.row l.i
-
-abbrev pub decreases-loop-row : goal.decreases-loop-row
-decreases-loop-row l = length l.initial.row - l.i
+abbrev pub invariant-loop-i : goal.invariant-loop-i
+invariant-loop-i l = take l.i l.row ≡ take l.i l.src

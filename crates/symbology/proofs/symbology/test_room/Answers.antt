@@ -2,18 +2,22 @@ use Rattle.symbology.specs.Answers.{room_in}
 use Rattle.std.proofs.Common.{le-ltb, lt-ltb}
 use Rattle.symbology.proofs.symbology.test_room.Goals as goal
 
-pub returns-then-azimuths-n_radials : goal.returns-then-azimuths-n_radials
+pub returns-then-room-n_radials : goal.returns-then-room-n_radials
 unfolding room_in
-returns-then-azimuths-n_radials c = simp (lt-ltb _ _ c.if-azimuths-n_radials.true)
+returns-then-room-n_radials c = simp (lt-ltb _ _ c.if-room-n_radials.true)
 
-pub returns-then-codes-cells : goal.returns-then-codes-cells
+pub returns-then-room-cells : goal.returns-then-room-cells
 unfolding room_in
-returns-then-codes-cells c = simp (le-ltb _ _ c.if-azimuths-n_radials.false, lt-ltb _ _ c.if-codes-cells.true)
+returns-then-room-cells c = simp (le-ltb _ _ c.if-room-n_radials.false, lt-ltb _ _ c.if-room-cells.true)
 
-pub returns-then-is_room_small : goal.returns-then-is_room_small
+pub returns-in-Some : goal.returns-in-Some
 unfolding room_in
-returns-then-is_room_small c = rw (← c.is_room_small.ensures) (simp (le-ltb _ _ c.if-azimuths-n_radials.false, le-ltb _ _ c.if-codes-cells.false, c.if-is_room_small.true))
+returns-in-Some c = rw c.in-Some.is (simp (le-ltb _ _ c.if-room-n_radials.false, le-ltb _ _ c.if-room-cells.false, lt-ltb _ _ c.if-places-cells.true))
 
-pub returns : goal.returns
+pub returns-in_default : goal.returns-in_default
 unfolding room_in
-returns c = rw (← c.is_room_small.ensures) (simp (le-ltb _ _ c.if-azimuths-n_radials.false, le-ltb _ _ c.if-codes-cells.false, c.if-is_room_small.false))
+returns-in_default c = rw c.in-Some.is (simp (le-ltb _ _ c.if-room-n_radials.false, le-ltb _ _ c.if-room-cells.false, le-ltb _ _ c.if-places-cells.false))
+
+pub returns-in_default-2 : goal.returns-in_default-2
+unfolding room_in
+returns-in_default-2 c = rw c.in_default.is (simp (le-ltb _ _ c.if-room-n_radials.false, le-ltb _ _ c.if-room-cells.false))

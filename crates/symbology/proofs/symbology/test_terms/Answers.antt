@@ -1,5 +1,8 @@
+use Rattle.std.proofs.Common.{ap, ap₂, ◌∙◌}
+use Rattle.wire.specs.Result.{answer, then}
+use Rattle.wire.proofs.Results.{both}
 use Rattle.symbology.proofs.Decode.{admit_is}
 use Rattle.symbology.proofs.symbology.test_terms.Goals as goal
 
 pub returns : goal.returns
-returns c = admit_is _ _ _ _ c.test_packet-packet.ensures c.test_step-step.ensures c.test_room-room.ensures c.both.ensures c.both-2.ensures
+returns c = ap answer c.and.ensures ∙ both _ _ ∙ ap₂ (λ r q. then r λ _. q) c.test_use.ensures c.test_room.ensures ∙ admit_is _ _ _ _

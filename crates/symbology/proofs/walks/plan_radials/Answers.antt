@@ -1,12 +1,9 @@
+use Rattle.wire.proofs.Results.{returned}
 use Rattle.symbology.proofs.Payload.{plan_refused, plan_value}
-use Rattle.symbology.specs.Walk.{next_of, Plans}
-use Rattle.std.proofs.Common.{sym, ap, ◌∙◌}
 use Rattle.symbology.proofs.walks.plan_radials.Goals as goal
 
-pub returns-in-Refused : goal.returns-in-Refused
-unfolding Plans
-returns-in-Refused c = plan_refused _ _ _ _ (ap next_of (sym c.in-Refused.is) ∙ c.check_radials.ensures)
+pub returns-in_err-next : goal.returns-in_err-next
+returns-in_err-next c = rw (returned c.from_residual.ensures.1) (plan_refused _ _ _ _ c.in_err-next.ensures)
 
-pub returns-in-At : goal.returns-in-At
-unfolding Plans
-returns-in-At c = plan_value _ _ _ _ c.requires (ap next_of (sym c.in-At.is) ∙ c.check_radials.ensures)
+pub returns : goal.returns
+returns c = plan_value _ _ _ _ c.requires c.in_ok-next.ensures

@@ -1,15 +1,8 @@
-use borrow.Author.Rules.{rules}
-use Rattle.tariff.proofs.Bands.{climbing_first, climbing_next, climbing_not, climbing_end}
+use lib.Dec.{ltb}
+use Rattle.std.proofs.Common.{rules, tests}
+use Rattle.std.proofs.lemmas.List.Sorted.{answers_always}
+use Rattle.tariff.proofs.Bands.{adjacent}
 use Rattle.tariff.proofs.charge.is_ascending.Goals as goal
 
-pub loop-i-init : goal.loop-i-init
-loop-i-init c = climbing_first _
-
-pub returns-then-ends-i : goal.returns-then-ends-i
-returns-then-ends-i c = climbing_not c.loop-i.invariant c.loop-i-test.true (search rules)
-
-pub loop-i-preserved : goal.loop-i-preserved
-loop-i-preserved c = climbing_next c.loop-i.invariant c.loop-i-test.true (search rules)
-
 pub returns : goal.returns
-returns c = climbing_end c.loop-i.invariant c.loop-i-test.false
+returns c = adjacent _ _ (c.is_sorted_by.ensures.cases ltb (answers_always _ _ _ (λ f a r f' k. search (rules, tests))))

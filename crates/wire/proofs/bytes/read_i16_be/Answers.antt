@@ -1,6 +1,6 @@
 use mir.Facts.{to_z-of_z}
 use mir.Syntax.{w16}
-use Rattle.wire.specs.declared.bytes.I16Read.TheVariants.{Value}
+use Rattle.std.specs.Prelude.{Some}
 use Rattle.wire.proofs.Numbers.{is_in, is_out}
 use mathlib.Core.Path.{◌∙◌, ap}
 use native.Mathlib.Omega.{arith}
@@ -11,4 +11,4 @@ pub returns-then-remaining-lt2 : goal.returns-then-remaining-lt2
 returns-then-remaining-lt2 c = is_out _ _ 2 _ _ _ c.remaining.ensures c.if-remaining-lt2.true
 
 pub returns : goal.returns
-returns c = ap Value (to_z-of_z {w = w16} {z = c.i16_at.result} (search rules) ∙ c.i16_at.ensures) ∙ is_in _ _ 2 _ _ _ (omega arith) c.remaining.ensures c.if-remaining-lt2.false
+returns c = ap Some (to_z-of_z {w = w16} {z = c.i16_at.result} (search rules) ∙ c.i16_at.ensures) ∙ is_in _ _ 2 _ _ _ (omega arith) c.remaining.ensures c.if-remaining-lt2.false

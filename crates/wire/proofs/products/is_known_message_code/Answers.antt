@@ -1,12 +1,20 @@
-use Rattle.wire.proofs.Codes.{below_zero, known_code}
 use mir.Syntax.{w16}
 use mir.Facts.{to_z-of_z}
-use mathlib.Core.Path.{◌∙◌}
-use borrow.Author.Rules.{rules}
+use Rattle.std.proofs.Common.{◌∙◌, ap, nat_abs}
+use Rattle.std.specs.Int.{FitsUnsignedBits}
+use Rattle.wire.specs.Products.{known, codes}
+use Rattle.wire.proofs.Codes.{looked_up, not_looked_up}
 use Rattle.wire.proofs.products.is_known_message_code.Goals as goal
 
-pub returns-then-code-lt0 : goal.returns-then-code-lt0
-returns-then-code-lt0 c = below_zero (to_z-of_z {w = w16} {z = c.args.code} (search rules)) c.if-code-lt0.true
+pub returns-in-Ok : goal.returns-in-Ok
+unfolding known codes
+returns-in-Ok c =
+    let q = to_z-of_z {w = w16} {z = c.args.code} c.ranges.code in
+    let h = c.in-Ok.ensures in
+    let k : FitsUnsignedBits 16 c.args.code = rw q at h.0 in
+    let m = h.1 ∙ ap nat_abs q in c.contains.ensures.value ∙ looked_up c.args.code c.in-Ok.n k m
 
-pub returns : goal.returns
-returns c = c.is_code.ensures ∙ known_code (to_z-of_z {w = w16} {z = c.args.code} (search rules)) c.if-code-lt0.false
+pub returns-in-Err : goal.returns-in-Err
+returns-in-Err c =
+    let q = to_z-of_z {w = w16} {z = c.args.code} c.ranges.code in
+    not_looked_up c.args.code c.ranges.code (λ f. c.in-Err.ensures (rw q f))

@@ -1,19 +1,19 @@
-use Rattle.wire.proofs.Ends.{back_first, back_next, back_stop, back_end}
-use borrow.Author.Tests.{eq-eqb, ne_eqb}
-use native.Mathlib.Omega.{arith}
+use Rattle.std.proofs.Common.{rules, arith, length, List, [], ◌∷◌, ℕ, ◌≡◌, refl, sym, ap, ◌∙◌, eq-eqb}
+use borrow.Author.Tests.{ne_eqb}
+use Rattle.wire.specs.Text.{is_zero, trim_end}
+use Rattle.wire.proofs.Ends.{trim_last, trim_done}
 use Rattle.wire.proofs.text.trimmed_len.Goals as goal
 
-pub loop-n-init : goal.loop-n-init
-loop-n-init c = back_first
+pub loop-kept-preserved : goal.loop-kept-preserved
+loop-kept-preserved c = trim_last is_zero _ c.in-len1-up.len_at_least (eq-eqb _ _ c.if-last-ne0.false) ∙ c.loop-kept.invariant
 
-pub bounds-s-n : goal.bounds-s-n
-bounds-s-n c = omega (arith, c.loop-n.invariant.within)
+empty : (s : List ℕ) → length s ≡ 0 → length s ≡ length (trim_end is_zero s)
+unfolding trim_end
+empty [] e = refl
+empty (x ∷ s) e = absurd (omega arith)
 
-pub returns-then-s-n-ne0 : goal.returns-then-s-n-ne0
-returns-then-s-n-ne0 c = back_stop c.loop-n.invariant c.loop-n-test.true (ne_eqb _ _ c.if-s-n-ne0.true)
+pub returns-in_default : goal.returns-in_default
+returns-in_default c = empty _ (omega (arith, c.in_default.len_below)) ∙ ap length c.loop-kept.invariant
 
-pub loop-n-preserved : goal.loop-n-preserved
-loop-n-preserved c = back_next c.loop-n.invariant c.loop-n-test.true (eq-eqb _ _ c.if-s-n-ne0.false)
-
-pub returns : goal.returns
-returns c = back_end c.loop-n.invariant c.loop-n-test.false
+pub returns-then-last-ne0 : goal.returns-then-last-ne0
+returns-then-last-ne0 c = sym (ap length (trim_done is_zero _ c.in-len1-up.len_at_least (ne_eqb _ _ c.if-last-ne0.true))) ∙ ap length c.loop-kept.invariant

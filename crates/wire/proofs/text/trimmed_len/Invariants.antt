@@ -1,9 +1,9 @@
-use Rattle.wire.proofs.Ends.{Back}
-use Rattle.wire.specs.Text.{is_zero}
+use Rattle.std.proofs.Common.{◌≡◌, length}
+use Rattle.wire.specs.Text.{is_zero, trim_end}
 use Rattle.wire.proofs.text.trimmed_len.Given as goal
 
-abbrev pub invariant-loop-n : goal.invariant-loop-n
-invariant-loop-n l = Back is_zero l.s l.n
+abbrev pub invariant-loop-kept : goal.invariant-loop-kept
+invariant-loop-kept l = trim_end is_zero l.kept ≡ trim_end is_zero l.s
 
-abbrev pub decreases-loop-n : goal.decreases-loop-n
-decreases-loop-n l = l.n
+abbrev pub decreases-loop-kept : goal.decreases-loop-kept
+decreases-loop-kept l = length l.kept

@@ -1,9 +1,0 @@
-use Rattle.capi.proofs.Copied.{Copied}
-use Rattle.std.proofs.Common.{◌-◌, length}
-use Rattle.capi.proofs.copies.copy_u64.Given as goal
-
-abbrev pub invariant-loop-i : goal.invariant-loop-i
-invariant-loop-i l = Copied l.words l.initial.ints l.ints l.i
-
-abbrev pub decreases-loop-i : goal.decreases-loop-i
-decreases-loop-i l = length l.words - l.i

@@ -1,8 +1,0 @@
-use Rattle.std.proofs.Common.{eq-eqb, ne_eqb}
-use Rattle.symbology.proofs.generic.is_grid_large.Goals as goal
-
-pub returns-then-r-eq0 : goal.returns-then-r-eq0
-returns-then-r-eq0 c = simp (eq-eqb _ _ c.if-r-eq0.true)
-
-pub returns : goal.returns
-returns c = simp (ne_eqb _ _ c.if-r-eq0.false)

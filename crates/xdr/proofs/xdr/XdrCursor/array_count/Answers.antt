@@ -1,0 +1,26 @@
+use Rattle.std.proofs.Common.{rules, arith, refl, sym, ap, ◌∙◌, ◌*◌}
+use borrow.Author.Tests.{lt-ltb, le-ltb}
+use Rattle.wire.specs.Refusal.{kind, nat, whole}
+use Rattle.wire.specs.Reading.{give, u32, unread, ◌>>◌}
+use Rattle.wire.specs.declared.error.XdrItem.TheVariants as Item
+use Rattle.xdr.specs.Xdr.{short, pass, word, int, uint, float, padding, string_body, string, array_count, int_array, pointer, list_head, at_least0, parameter, counted, elements, further}
+use Rattle.xdr.specs.Cursor.{trimmed_part}
+use Rattle.wire.proofs.Results.{returned}
+use Rattle.xdr.proofs.Chains.{tested, given, passed_over, word_read, part_no, part_on, go_on, go_no, by_on, by_no, past_on, past_no, let_on, let_no}
+use Rattle.xdr.proofs.xdr.XdrCursor.array_count.Goals as goal
+
+pub returns-in_err-len : goal.returns-in_err-len
+unfolding array_count
+returns-in_err-len c = rw (returned c.from_residual.ensures.1) (go_no uint _ c.in_err-len.ensures)
+
+pub returns-then-len-gt-MAX_XDR_ARRAY_LEN : goal.returns-then-len-gt-MAX_XDR_ARRAY_LEN
+unfolding array_count
+returns-then-len-gt-MAX_XDR_ARRAY_LEN c = go_on uint _ c.in_ok-len.ensures (let_no _ (short Item.ArrayBody (c.in_ok-len.len * 4) >> give c.in_ok-len.len) (lt-ltb _ _ c.if-len-gt-MAX_XDR_ARRAY_LEN.true) refl)
+
+pub returns-in_err-need : goal.returns-in_err-need
+unfolding array_count
+returns-in_err-need c = rw (returned c.from_residual-in_err-need.ensures.1) (go_on uint _ c.in_ok-len.ensures (let_on _ (short Item.ArrayBody (c.in_ok-len.len * 4) >> give c.in_ok-len.len) (le-ltb _ _ c.if-len-gt-MAX_XDR_ARRAY_LEN.false) (by_no (short Item.ArrayBody (c.in_ok-len.len * 4)) (give c.in_ok-len.len) (tested _ c.in_err-need.ensures))))
+
+pub returns : goal.returns
+unfolding array_count
+returns c = go_on uint _ c.in_ok-len.ensures (let_on _ (short Item.ArrayBody (c.in_ok-len.len * 4) >> give c.in_ok-len.len) (le-ltb _ _ c.if-len-gt-MAX_XDR_ARRAY_LEN.false) (by_on (short Item.ArrayBody (c.in_ok-len.len * 4)) (give c.in_ok-len.len) (tested _ c.in_ok-need.ensures) (given refl)))
