@@ -28,6 +28,7 @@ fn read(
     let cells = figures.n_radials * figures.n_bins;
     let n = cells.min(values.len());
     scale::physical::fill_physical(scheme, file, head.block, &codes[..n], values)?;
+    // As sweep's `accepted` does, which is no public function: it would hand on whatever head it is given.
     let declared = scale::physical::declared_scale(head.scaling)?;
     Ok(Sweep {
         token: head.token,

@@ -14,10 +14,10 @@ fn digit(n: usize) -> u8
 pub fn date_text(d: Date) -> [u8; 10]
     ensures { result ≡ date_text d }
 {
-    let century = d.year as usize / 100;
-    let year = d.year as usize;
-    let month = d.month as usize;
-    let day = d.day as usize;
+    let century = usize::from(d.year) / 100;
+    let year = usize::from(d.year);
+    let month = usize::from(d.month);
+    let day = usize::from(d.day);
     [
         digit(century / 10),
         digit(century),

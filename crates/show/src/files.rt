@@ -40,6 +40,7 @@ fn read_some(file: &mut impl Read, part: &mut [u8]) -> io::Result<usize>
 
 // Reads until the file ends or the array is full.
 fn read_all(file: &mut impl Read, buf: &mut [u8]) -> io::Result<Loaded> {
+    // A loop over no items: each read says how far the next one begins.
     let mut at = 0usize;
     while at < buf.len() {
         let got = read_some(file, &mut buf[at..])?;

@@ -144,12 +144,6 @@ pub fn single(out: &mut Text, x: f32, width: usize) {
     double(out, std::num::f32_to_f64_with_nan(x), width);
 }
 
-fn wide(x: u32) -> u64
-    ensures { result ≡ x }
-{
-    x as u64
-}
-
 // An f32 with six decimals.
 pub fn fine(out: &mut Text, x: f32, width: usize) {
     if x.is_nan() {
@@ -159,13 +153,11 @@ pub fn fine(out: &mut Text, x: f32, width: usize) {
     let bits = f32::to_bits(x);
     let rest = bits % 0x8000_0000;
     if rest < 1258291200 {
-        let digits = wide(rest);
+        let digits = u64::from(rest);
         let n = millionths32(digits);
-        if n == 0 {
-            if digits != 0 {
-                print_small(out, 0x8000_0000 <= bits, digits);
-                return;
-            }
+        if n == 0 && digits != 0 {
+            print_small(out, 0x8000_0000 <= bits, digits);
+            return;
         }
         print_units(out, 0x8000_0000 <= bits, n, 1000000, width);
         return;

@@ -18,6 +18,7 @@ pub fn decimal(n: u64, out: &mut [u8; 20]) -> usize
 fn digit_count(n: u64) -> usize
     ensures { IsDigitCount n result }
 {
+    // Over no items: the number is what is left to count.
     let mut k = 1;
     let mut rest = n / 10;
     while rest > 0 {

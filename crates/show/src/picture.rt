@@ -32,14 +32,14 @@ fn degrees_line(out: &mut Text, name: &[u8], z: i32, unit: u64)
     requires { (0 < unit) × (unit ≤ 1000000) }
 {
     label(out, name);
-    crate::floats::print_units(out, z < 0, crate::text::distance(z) as u64, unit, 16);
+    crate::floats::print_units(out, z < 0, u64::from(z.unsigned_abs()), unit, 16);
     crate::text::say(out, b" degrees\n");
 }
 
 // Metres from whole feet, exact too: a foot is 3,048 ten-thousandths.
 fn height_line(out: &mut Text, feet: i32) {
     label(out, b"height");
-    let n = crate::text::distance(feet) as u64 * 3048;
+    let n = u64::from(feet.unsigned_abs()) * 3048;
     crate::floats::print_units(out, feet < 0, n, 10000, 16);
     crate::text::say(out, b" m, ");
     crate::text::signed(out, feet);
@@ -97,9 +97,9 @@ fn print_fields(out: &mut Text, f: PdbFields, time: u64) {
     degrees_line(out, b"longitude", f.lon_thousandths, 1000);
     height_line(out, i32::from(f.height_feet));
     signed_line(out, b"product code", i32::from(f.product_code));
-    whole_line(out, b"vcp", f.vcp as usize);
+    whole_line(out, b"vcp", usize::from(f.vcp));
     degrees_line(out, b"elevation", i32::from(f.elevation_tenths), 10);
-    whole_line(out, b"scan days", f.scan_days as usize);
+    whole_line(out, b"scan days", usize::from(f.scan_days));
     signed_line(out, b"scan seconds", f.scan_seconds);
     label(out, b"scan time");
     crate::text::right_whole(out, time, 16);
@@ -112,7 +112,7 @@ fn print_scale(out: &mut Text, s: DeclaredLinearScale) {
     fine_line(out, b"scale minimum", s.value_min, b"\n");
     fine_line(out, b"scale step", s.value_increment, b"\n");
     whole_line(out, b"scale levels", s.n_levels as usize);
-    whole_line(out, b"scale floor", s.data_floor_code as usize);
+    whole_line(out, b"scale floor", usize::from(s.data_floor_code));
 }
 
 fn print_declared(out: &mut Text, declared: Option<DeclaredLinearScale>) {
@@ -141,7 +141,7 @@ fn print_figures(out: &mut Text, f: Figures) {
     whole_line(out, b"radials", f.n_radials);
     whole_line(out, b"bins", f.n_bins);
     match f.geometry {
-        Geometry::RangeScale(n) => whole_line(out, b"range scale", n as usize),
+        Geometry::RangeScale(n) => whole_line(out, b"range scale", usize::from(n)),
         Geometry::Gates {
             gate_width_m,
             first_gate_m,

@@ -106,7 +106,7 @@ pub fn signed(out: &mut Text, z: i32) {
 
 pub fn right_signed(out: &mut Text, z: i32, width: usize) {
     let mut digits = [0u8; 20];
-    let k = crate::numbers::decimal(distance(z) as u64, &mut digits);
+    let k = crate::numbers::decimal(u64::from(z.unsigned_abs()), &mut digits);
     if z < 0 {
         pad(out, left(width, 1), k);
         say(out, b"-");

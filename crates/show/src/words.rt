@@ -103,24 +103,6 @@ fn decimal_of(text: &[u8]) -> Option<f32>
     quotient(n, k)
 }
 
-fn precipitation(text: &[u8]) -> Result<Scheme, BadScheme>
-    ensures { result ≡ with_number Scheme.Precipitation (decimal_of text.now) }
-{
-    match decimal_of(text) {
-        Some(factor) => Ok(Scheme::Precipitation { factor }),
-        None => Err(BadScheme::BadNumber),
-    }
-}
-
-fn legacy(text: &[u8]) -> Result<Scheme, BadScheme>
-    ensures { result ≡ with_number Scheme.Legacy (decimal_of text.now) }
-{
-    match decimal_of(text) {
-        Some(post_scale) => Ok(Scheme::Legacy { post_scale }),
-        None => Err(BadScheme::BadNumber),
-    }
-}
-
 // Whether a word begins with a name.
 pub fn starts_with(word: &[u8], name: &[u8]) -> bool
     ensures { result ≡ begins name.now word.now }
@@ -143,10 +125,12 @@ fn scheme_of(word: &[u8]) -> Result<Scheme, BadScheme>
         return Ok(Scheme::Class);
     }
     if starts_with(word, b"precipitation:") {
-        return precipitation(&word[14..]);
+        let factor = decimal_of(&word[14..]).ok_or(BadScheme::BadNumber)?;
+        return Ok(Scheme::Precipitation { factor });
     }
     if starts_with(word, b"legacy:") {
-        return legacy(&word[7..]);
+        let post_scale = decimal_of(&word[7..]).ok_or(BadScheme::BadNumber)?;
+        return Ok(Scheme::Legacy { post_scale });
     }
     Err(BadScheme::Unknown)
 }
