@@ -1,8 +1,8 @@
 -- Laws of reads one after another, by what each leaves of the cursor. Assumes nothing.
-use Prim.Native.Nat.{ℕ, zero, suc, ◌+◌, ◌-◌, ◌<◌, ◌≤◌}
+use Prim.Native.Nat.{ℕ, zero, suc, ◌+◌, ◌-◌, ◌<◌}
 use native.Mathlib.Nat.{not-suc-le-zero}
 use native.Mathlib.Omega.{arith}
-use mathlib.Core.List.{List, [], ◌∷◌}
+use mathlib.Core.List.{List, ◌∷◌}
 use mathlib.Core.Bool.{Bool, true, false, cond}
 use mathlib.Core.Path.{◌≡◌, refl, sym, ap, ◌∙◌}
 use Rattle.std.specs.Prelude as Std
@@ -13,7 +13,7 @@ use Rattle.wire.specs.declared.error.Level3DecodeError.{Level3DecodeError}
 use Rattle.wire.proofs.Readings.{walk_then, walk_check, then_passed, then_halted}
 use Rattle.wire.specs.declared.error.XdrItem.TheVariants as Item
 use Rattle.xdr.specs.Xdr.{pass, pointer, list_head, further, elements, counted}
-use Rattle.xdr.specs.Cursor.{read_at, ended, done, mapped, Leaves, Tests}
+use Rattle.xdr.specs.Cursor.{read_at, done, mapped, Leaves, Tests}
 use Rattle.xdr.specs.declared.xdr.XdrCursor.{XdrCursor}
 
 -- a test reads nothing

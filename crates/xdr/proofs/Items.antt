@@ -3,22 +3,20 @@ use Prim.Native.Nat.{ℕ, ◌+◌, ◌*◌, ◌-◌, ◌≤◌, ◌<◌}
 use native.Mathlib.Omega.{arith}
 use mathlib.Core.List.{List, [], ◌∷◌}
 use mathlib.Core.Bool.{Bool, true, false, cond}
-use mathlib.Core.Path.{◌≡◌, refl, sym, ap, ◌∙◌}
-use lib.ListN.{length, take, drop}
+use mathlib.Core.Path.{◌≡◌, refl, ◌∙◌}
+use lib.ListN.{length}
 use lib.IntN.{ℤ, pos, negsuc, nat_abs}
-use lib.Signed.{le_z, lt_z, non_neg}
+use lib.Signed.{le_z, non_neg}
 use lib.Dec.{T, ltb}
 use mir.Syntax.{w32, w64}
 use mir.Val.{Fits, SFits}
 use borrow.Author.Tests.{lt-ltb, le-ltb, ltb-false, leb-true}
-use Rattle.wire.specs.Bytes.{u32_at}
-use Rattle.wire.specs.Refusal.{Refusal, kind, nat, whole, item}
-use Rattle.wire.specs.Reading.{Flat, give, ◌>>=◌, ◌>>◌, remaining, u32, unread, refuse_if, Ended, passed, halted, onward, walk}
-use Rattle.wire.specs.Text.{is_zero, trim_end}
+use Rattle.wire.specs.Refusal.{Refusal, kind, nat, item}
+use Rattle.wire.specs.Reading.{give, ◌>>=◌, ◌>>◌, remaining, u32, unread, refuse_if, Ended, passed, halted, walk}
 use Rattle.wire.specs.declared.error.XdrItem.{XdrItem}
 use Rattle.wire.specs.declared.error.XdrItem.TheVariants as Item
 use Rattle.wire.proofs.Readings.{parts, parts_by, passed_check}
-use Rattle.xdr.specs.Xdr.{short, pass, word, int, uint, padding, string_body, string, array_count, int_array, pointer, list_head, list_count, at_least0}
+use Rattle.xdr.specs.Xdr.{short, pass, word, uint, padding, string_body, string, array_count, at_least0}
 
 abbrev pub cut : XdrItem → ℕ → ℕ → Refusal
 cut i have need = kind 23 (item i ∷ nat have ∷ nat need ∷ [])

@@ -1,4 +1,5 @@
 pub mod Items
+pub mod ItemLaws
 pub mod Chains
 pub mod Plains
 pub mod Examples

@@ -1,4 +1,4 @@
-use Rattle.std.proofs.Common.{rules, refl, ap, ap₂, ◌∙◌, ◌-◌, length}
+use Rattle.std.proofs.Common.{refl, ap₂, ◌∙◌, ◌-◌, length}
 use Rattle.wire.specs.Reading.{walk}
 use Rattle.xdr.specs.Xdr.{int, uint, float, string, int_array, list_head, parameter, counted}
 use Rattle.xdr.specs.Cursor.{string_part, array_part, done}

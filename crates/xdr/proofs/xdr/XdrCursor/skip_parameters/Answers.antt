@@ -1,4 +1,4 @@
-use Rattle.std.proofs.Common.{rules, arith, ◌-◌, ◌+◌, ◌≡◌, ◌<◌}
+use Rattle.std.proofs.Common.{arith, ◌-◌, ◌+◌, ◌≡◌}
 use Rattle.wire.proofs.Results.{returned}
 use Rattle.xdr.specs.Xdr.{parameter}
 use Rattle.xdr.proofs.Chains.{list_no, list_none, list_stop, list_first, further_no, further_stop, further_more, further_none}
