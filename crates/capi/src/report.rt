@@ -3,7 +3,8 @@ ghost use Rattle.std.specs.Prelude.{◌≡◌, ◌<◌, [], ◌∷◌, if◌then
 ghost use Rattle.wire.specs.Refusal.{refusal_of};
 ghost use Rattle.wire.specs.Result.{answer};
 ghost use Rattle.xdr.specs.Cursor.{ended};
-ghost use Rattle.capi.specs.Report.{whole_places, word, item_number, buffer_number, report, refusal_report, report_of, ended_report, with_place, with_position, said, short, Leaves};
+ghost use Rattle.capi.specs.Report.{whole_places, word, item_number, buffer_number, report, refusal_report, report_of, ended_report};
+ghost use Rattle.capi.specs.Report.{with_place, with_position, said, short, Leaves};
 
 use wire::error::{Buffer, Level3DecodeError, XdrItem};
 use xdr::each::Ended;

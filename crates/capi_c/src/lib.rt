@@ -2,7 +2,8 @@
 #![tactic(auto)]
 
 ghost use Rattle.calendar.specs.Calendar.{date_of};
-ghost use Rattle.capi.specs.Entries.{ExportLeaves, GapsLeave, PictureLeaves, SweepLeaves, TotalsLeave, codes_said, field_said, gaps_said, items_said, levels_said, merge_said, physical_said, read_said, sweep_said, threshold_said, totals_said, xdr_said};
+ghost use Rattle.capi.specs.Entries.{ExportLeaves, GapsLeave, PictureLeaves, SweepLeaves, TotalsLeave, codes_said, field_said, gaps_said};
+ghost use Rattle.capi.specs.Entries.{items_said, levels_said, merge_said, physical_said, read_said, sweep_said, threshold_said, totals_said, xdr_said};
 ghost use Rattle.capi.specs.Places.{charge_report, date_report, fields_report, linear_report, no_report, number_report, precip_report};
 ghost use Rattle.capi.specs.Report.{Leaves, lent_by, plain_after, plain_number, report_of, room_first, said, saying};
 ghost use Rattle.export.specs.Export.{export_of};
