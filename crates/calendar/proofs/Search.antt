@@ -112,3 +112,17 @@ unfolding date_of
 a_day {k} {day} {first} h l m e =
     let no : day ≡ 0 → ⊥ = λ z. omega arith in
     rw (e, ne_eqb day 0 no, one_month (in_latest h l) m)
+
+-- ---- a search between two months
+
+pub record Between (day low high : ℕ) : Type 0 where
+  pub ordered : low < high
+  pub inside : high ≤ 2154
+  pub begun : start low ≤ day
+  pub before : day < start high
+
+-- where one month is left, the day is in it
+pub between_found : {day low high : ℕ} → Between day low high → high - low ≤ 1 → InMonth low day
+between_found {day} {low} {high} b h =
+    let e : high ≡ suc low = omega (arith, b.ordered) in
+    record { begun = b.begun; before = rw e at b.before }

@@ -13,7 +13,7 @@ pub struct Date {
     pub day: u8,
 }
 
-#[tactic(auto, unfolding(crate::specs::Calendar::date_of))]
+#[tactic(auto, using(crate::proofs::Search::day_small), unfolding(crate::specs::Calendar::date_of))]
 pub fn calendar_day(days: u16) -> Result<Date, Level3DecodeError>
     ensures { answer result ≡ date_of days }
 {
@@ -25,6 +25,7 @@ pub fn calendar_day(days: u16) -> Result<Date, Level3DecodeError>
     }
     let k = month_of_day(days);
     let first = month_start(k);
+    // In range by the proof: `try_from` would be a test that cannot fail.
     Ok(Date {
         year: (1970 + k / 12) as u16,
         month: (1 + k % 12) as u8,

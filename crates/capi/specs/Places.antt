@@ -28,11 +28,15 @@ use Rattle.capi.specs.Report.{word, report, with_place}
 abbrev pub no_report : {A : Type 0} → A → Report
 no_report a = report 0 [] []
 
+-- a whole number, as the word that holds it
+abbrev pub word_report : {A : Type 0} → (A → ℕ) → A → Report
+word_report held a = report 0 (held a ∷ []) []
+
 abbrev pub number_report : ℕ → Report
-number_report n = report 0 (n ∷ []) []
+number_report = word_report (λ n. n)
 
 abbrev pub signed_report : ℤ → Report
-signed_report z = report 0 (word z ∷ []) []
+signed_report = word_report word
 
 abbrev pub float_report : Float → Report
 float_report x = report 0 [] (x ∷ [])
@@ -40,14 +44,16 @@ float_report x = report 0 [] (x ∷ [])
 abbrev pub pair_report : F32Pair → Report
 pair_report p = report 0 [] (p.scale ∷ p.offset ∷ [])
 
--- whether a number is there, and the number
+-- whether a number is there, and the number, as the word that holds it
+abbrev pub found : {A : Type 0} → (A → ℕ) → Option A → Report
+found held (Some a) = report 0 (1 ∷ held a ∷ []) []
+found held None = report 0 (0 ∷ []) []
+
 abbrev pub number_found : Option ℕ → Report
-number_found (Some n) = report 0 (1 ∷ n ∷ []) []
-number_found None = report 0 (0 ∷ []) []
+number_found = found (λ n. n)
 
 abbrev pub signed_found : Option ℤ → Report
-signed_found (Some z) = report 0 (1 ∷ word z ∷ []) []
-signed_found None = report 0 (0 ∷ []) []
+signed_found = found word
 
 abbrev pub part_report : Part → Report
 part_report p = report 0 (p.start ∷ p.len ∷ []) []

@@ -6,6 +6,7 @@ ghost use Rattle.capi.specs.Places.{charge_report};
 
 use crate::report::write_answer;
 
+// By hand: its parameters are C's; l3_precip is like it in form alone.
 pub fn l3_charge(
     total: u64,
     ends: &[u64],

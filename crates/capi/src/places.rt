@@ -1,17 +1,19 @@
 // What stands where in the report of an accepted value.
+#![tactic(auto, using(crate::proofs::Constants::nought))]
+
 ghost use Rattle.std.specs.Prelude.{◌≡◌};
-ghost use Rattle.capi.specs.Places.{placed, no_head, no_picture, no_scale, head_places, packet_number, range_scale, gate_width, first_gate};
+ghost use Rattle.capi.specs.Places.{placed, no_head, no_picture, head_places, packet_number};
 ghost use Rattle.capi.specs.Places.{picture_places, linear_places, ceiling_number, precip_places, declared_places, fields_report, figures_report};
 ghost use Rattle.capi.specs.Places.{linear_report, precip_report, sweep_report, totals_report};
 
-use crate::report::{Report, Reported, with_place, word_of, word_of_half};
+use crate::report::{Report, Reported, Whole, with_place};
 use fields::fields::SweepTotals;
 use head::pdb::PdbFields;
 use scale::scaling::{DeclaredLinearScale, LinearScale, PrecipScale};
 use sweep::sweep::Sweep;
 use symbology::figures::{Figures, Geometry, Packet};
 
-#[derive(Clone, Copy)]
+#[derive(Clone, Copy, Default)]
 pub struct HeadPlaces {
     pub token: u64,
     pub code: u64,
@@ -29,7 +31,7 @@ pub struct HeadPlaces {
     pub elevation: f64,
 }
 
-#[derive(Clone, Copy)]
+#[derive(Clone, Copy, Default)]
 pub struct PicturePlaces {
     pub packet: u64,
     pub radials: u64,
@@ -39,7 +41,7 @@ pub struct PicturePlaces {
     pub first: f64,
 }
 
-#[derive(Clone, Copy)]
+#[derive(Clone, Copy, Default)]
 pub struct ScalePlaces {
     pub declared: u64,
     pub levels: u64,
@@ -93,67 +95,20 @@ pub(crate) fn placed_report(h: HeadPlaces, p: PicturePlaces, s: ScalePlaces) -> 
     }
 }
 
-fn no_head() -> HeadPlaces
-    ensures { result ≡ no_head }
-{
-    HeadPlaces {
-        token: 0,
-        code: 0,
-        vcp: 0,
-        days: 0,
-        seconds: 0,
-        time: 0,
-        lat_thousandths: 0,
-        lon_thousandths: 0,
-        feet: 0,
-        tenths: 0,
-        latitude: 0.0,
-        longitude: 0.0,
-        height: 0.0,
-        elevation: 0.0,
-    }
-}
-
-fn no_picture() -> PicturePlaces
-    ensures { result ≡ no_picture }
-{
-    PicturePlaces {
-        packet: 0,
-        radials: 0,
-        bins: 0,
-        range: 0,
-        width: 0.0,
-        first: 0.0,
-    }
-}
-
-fn no_scale() -> ScalePlaces
-    ensures { result ≡ no_scale }
-{
-    ScalePlaces {
-        declared: 0,
-        levels: 0,
-        floor: 0,
-        ceiling: 0,
-        minimum: 0.0,
-        step: 0.0,
-    }
-}
-
 pub(crate) fn head_places(token: usize, f: PdbFields, time: u64) -> HeadPlaces
     ensures { result ≡ head_places token f time }
 {
     HeadPlaces {
-        token: token as u64,
-        code: word_of_half(f.product_code),
-        vcp: f.vcp as u64,
-        days: f.scan_days as u64,
-        seconds: word_of(f.scan_seconds),
+        token: token.word(),
+        code: f.product_code.word(),
+        vcp: f.vcp.word(),
+        days: f.scan_days.word(),
+        seconds: f.scan_seconds.word(),
         time,
-        lat_thousandths: word_of(f.lat_thousandths),
-        lon_thousandths: word_of(f.lon_thousandths),
-        feet: word_of_half(f.height_feet),
-        tenths: word_of_half(f.elevation_tenths),
+        lat_thousandths: f.lat_thousandths.word(),
+        lon_thousandths: f.lon_thousandths.word(),
+        feet: f.height_feet.word(),
+        tenths: f.elevation_tenths.word(),
         latitude: f.lat,
         longitude: f.lon,
         height: f.height_m,
@@ -161,6 +116,7 @@ pub(crate) fn head_places(token: usize, f: PdbFields, time: u64) -> HeadPlaces
     }
 }
 
+// By hand: the numbers are those of C.
 fn packet_number(packet: Packet) -> u64
     ensures { result ≡ packet_number packet }
 {
@@ -171,43 +127,28 @@ fn packet_number(packet: Packet) -> u64
     }
 }
 
-fn range_scale(geometry: Geometry) -> u64
-    ensures { result ≡ range_scale geometry }
-{
-    match geometry {
-        Geometry::RangeScale(n) => n as u64,
-        Geometry::Gates { .. } => 0,
-    }
-}
-
-fn gate_width(geometry: Geometry) -> f64
-    ensures { result ≡ gate_width geometry }
-{
-    match geometry {
-        Geometry::RangeScale(_) => 0.0,
-        Geometry::Gates { gate_width_m, .. } => std::num::f32_to_f64_with_nan(gate_width_m),
-    }
-}
-
-fn first_gate(geometry: Geometry) -> f64
-    ensures { result ≡ first_gate geometry }
-{
-    match geometry {
-        Geometry::RangeScale(_) => 0.0,
-        Geometry::Gates { first_gate_m, .. } => std::num::f32_to_f64_with_nan(first_gate_m),
-    }
-}
-
 pub(crate) fn picture_places(f: Figures) -> PicturePlaces
     ensures { result ≡ picture_places f }
 {
-    PicturePlaces {
+    let sized = PicturePlaces {
         packet: packet_number(f.packet),
-        radials: f.n_radials as u64,
-        bins: f.n_bins as u64,
-        range: range_scale(f.geometry),
-        width: gate_width(f.geometry),
-        first: first_gate(f.geometry),
+        radials: f.n_radials.word(),
+        bins: f.n_bins.word(),
+        ..PicturePlaces::default()
+    };
+    match f.geometry {
+        Geometry::RangeScale(n) => PicturePlaces {
+            range: n.word(),
+            ..sized
+        },
+        Geometry::Gates {
+            gate_width_m,
+            first_gate_m,
+        } => PicturePlaces {
+            width: f64::from(gate_width_m),
+            first: f64::from(first_gate_m),
+            ..sized
+        },
     }
 }
 
@@ -215,12 +156,10 @@ fn linear_places(s: LinearScale) -> ScalePlaces
     ensures { result ≡ linear_places s }
 {
     ScalePlaces {
-        declared: 0,
-        levels: s.n_levels as u64,
-        floor: 0,
-        ceiling: 0,
-        minimum: std::num::f32_to_f64_with_nan(s.value_min),
-        step: std::num::f32_to_f64_with_nan(s.value_increment),
+        levels: s.n_levels.word(),
+        minimum: f64::from(s.value_min),
+        step: f64::from(s.value_increment),
+        ..ScalePlaces::default()
     }
 }
 
@@ -228,8 +167,8 @@ fn ceiling_number(ceiling: Option<u16>) -> u64
     ensures { result ≡ ceiling_number ceiling }
 {
     match ceiling {
-        Some(n) => n as u64,
-        None => 18446744073709551615,
+        Some(n) => n.word(),
+        None => u64::MAX,
     }
 }
 
@@ -237,12 +176,11 @@ fn precip_places(p: PrecipScale) -> ScalePlaces
     ensures { result ≡ precip_places p }
 {
     ScalePlaces {
-        declared: 0,
-        levels: 0,
-        floor: p.floor as u64,
+        floor: u64::from(p.floor),
         ceiling: ceiling_number(p.ceiling),
-        minimum: std::num::f32_to_f64_with_nan(p.value_min),
-        step: std::num::f32_to_f64_with_nan(p.value_increment),
+        minimum: f64::from(p.value_min),
+        step: f64::from(p.value_increment),
+        ..ScalePlaces::default()
     }
 }
 
@@ -252,21 +190,32 @@ fn declared_places(declared: Option<DeclaredLinearScale>) -> ScalePlaces
     match declared {
         Some(d) => ScalePlaces {
             declared: 1,
-            levels: d.n_levels as u64,
-            floor: d.data_floor_code as u64,
-            ceiling: 0,
-            minimum: std::num::f32_to_f64_with_nan(d.value_min),
-            step: std::num::f32_to_f64_with_nan(d.value_increment),
+            levels: d.n_levels.word(),
+            floor: u64::from(d.data_floor_code),
+            minimum: f64::from(d.value_min),
+            step: f64::from(d.value_increment),
+            ..ScalePlaces::default()
         },
-        None => no_scale(),
+        None => ScalePlaces::default(),
     }
+}
+
+// The report of a scale alone.
+fn scale_report(s: ScalePlaces) -> Report
+    ensures { result ≡ placed no_head no_picture s }
+{
+    placed_report(HeadPlaces::default(), PicturePlaces::default(), s)
 }
 
 impl Reported for PdbFields {
     ghost places = { fields_report };
 
     fn report(self) -> Report {
-        placed_report(head_places(0, self, 0), no_picture(), no_scale())
+        placed_report(
+            head_places(0, self, 0),
+            PicturePlaces::default(),
+            ScalePlaces::default(),
+        )
     }
 }
 
@@ -274,7 +223,11 @@ impl Reported for Figures {
     ghost places = { figures_report };
 
     fn report(self) -> Report {
-        placed_report(no_head(), picture_places(self), no_scale())
+        placed_report(
+            HeadPlaces::default(),
+            picture_places(self),
+            ScalePlaces::default(),
+        )
     }
 }
 
@@ -282,7 +235,7 @@ impl Reported for LinearScale {
     ghost places = { linear_report };
 
     fn report(self) -> Report {
-        placed_report(no_head(), no_picture(), linear_places(self))
+        scale_report(linear_places(self))
     }
 }
 
@@ -290,7 +243,7 @@ impl Reported for PrecipScale {
     ghost places = { precip_report };
 
     fn report(self) -> Report {
-        placed_report(no_head(), no_picture(), precip_places(self))
+        scale_report(precip_places(self))
     }
 }
 

@@ -10,7 +10,7 @@ pub fn l3_known(code: i16) -> u32
     u32::from(wire::products::is_known_message_code(code))
 }
 
-#[tactic(auto, unfolding(crate::specs::Entries::codes_said))]
+#[tactic(auto, using(crate::proofs::Answers::codes_fit), unfolding(crate::specs::Entries::codes_said))]
 pub fn l3_codes(table: &mut [u16]) -> u32
     ensures value { result ≡ plain_number (codes_said (length table.old)) }
     ensures table_after { table.new ≡ plain_after (codes_said (length table.old)) table.old }

@@ -7,7 +7,6 @@ ghost use Rattle.capi.specs.Report.{whole_places, word, item_number, buffer_numb
 ghost use Rattle.capi.specs.Report.{with_place, with_position, said, short, Leaves};
 
 use wire::error::{Buffer, Level3DecodeError, XdrItem};
-use xdr::each::Ended;
 
 // The places of a report: for whole numbers and for floats.
 pub(crate) const INTS: usize = 24;
@@ -32,23 +31,66 @@ pub trait Reported {
         ensures { result ≡ places self };
 }
 
-// A whole number as a 64-bit word, two's complement.
-pub(crate) fn word_of(x: i32) -> u64
-    ensures { result ≡ word x }
-{
-    if x < 0 {
-        18446744073709551615 - (!x) as u64
-    } else {
-        x as u64
+// A whole number, which a report holds as a 64-bit word: two's complement.
+pub trait Whole {
+    ghost use Rattle.std.specs.Prelude.{ℕ};
+
+    ghost held: { Self → ℕ };
+
+    fn word(self) -> u64
+        ensures { result ≡ held self };
+}
+
+impl Whole for u16 {
+    ghost held = { λ n. n };
+
+    fn word(self) -> u64 {
+        u64::from(self)
     }
 }
 
-pub(crate) fn word_of_half(x: i16) -> u64
-    ensures { result ≡ word x }
-{
-    word_of(x as i32)
+impl Whole for u32 {
+    ghost held = { λ n. n };
+
+    fn word(self) -> u64 {
+        u64::from(self)
+    }
 }
 
+impl Whole for u64 {
+    ghost held = { λ n. n };
+
+    fn word(self) -> u64 {
+        self
+    }
+}
+
+impl Whole for usize {
+    ghost held = { λ n. n };
+
+    fn word(self) -> u64 {
+        // No `From` makes a `u64` of a `usize`.
+        self as u64
+    }
+}
+
+impl Whole for i16 {
+    ghost held = { word };
+
+    fn word(self) -> u64 {
+        i64::from(self).cast_unsigned()
+    }
+}
+
+impl Whole for i32 {
+    ghost held = { word };
+
+    fn word(self) -> u64 {
+        i64::from(self).cast_unsigned()
+    }
+}
+
+// C's numbers, here and below, one by one: the order of an enum of another crate promises nothing.
 fn item_number(item: XdrItem) -> u64
     ensures { result ≡ item_number item }
 {
@@ -77,18 +119,16 @@ fn buffer_number(buffer: Buffer) -> u64
 }
 
 // A number with up to four whole numbers.
+#[tactic(auto, using(crate::proofs::Constants::nought))]
 pub(crate) fn wholes(number: u32, a: u64, b: u64, c: u64, d: u64) -> Report
     ensures { result ≡ report number (a ∷ b ∷ c ∷ d ∷ []) [] }
 {
-    let mut ints = [0u64; INTS];
-    ints[0] = a;
-    ints[1] = b;
-    ints[2] = c;
-    ints[3] = d;
+    let mut ints = [0; INTS];
+    ints[..4].copy_from_slice(&[a, b, c, d]);
     Report {
         number,
         ints,
-        floats: [0.0f64; FLOATS],
+        floats: [0.0; FLOATS],
     }
 }
 
@@ -96,15 +136,9 @@ pub(crate) fn wholes(number: u32, a: u64, b: u64, c: u64, d: u64) -> Report
 pub(crate) fn with_float(number: u32, a: u64, x: f32) -> Report
     ensures { result ≡ report number (a ∷ []) (x ∷ []) }
 {
-    let mut ints = [0u64; INTS];
-    ints[0] = a;
-    let mut floats = [0.0f64; FLOATS];
-    floats[0] = std::num::f32_to_f64_with_nan(x);
-    Report {
-        number,
-        ints,
-        floats,
-    }
+    let mut report = wholes(number, a, 0, 0, 0);
+    report.floats[0] = f64::from(x);
+    report
 }
 
 pub(crate) fn refusal_report(error: Level3DecodeError) -> Report
@@ -113,11 +147,11 @@ pub(crate) fn refusal_report(error: Level3DecodeError) -> Report
     match error {
         Level3DecodeError::NoAwipsToken => wholes(1, 0, 0, 0, 0),
         Level3DecodeError::NoMessageHeader => wholes(2, 0, 0, 0, 0),
-        Level3DecodeError::PdbFieldOutOfBounds { index } => wholes(3, index as u64, 0, 0, 0),
+        Level3DecodeError::PdbFieldOutOfBounds { index } => wholes(3, index.word(), 0, 0, 0),
         Level3DecodeError::ImplausibleScanTime { days, seconds } => wholes(
             4,
-            days as u64,
-            word_of(seconds),
+            days.word(),
+            seconds.word(),
             0,
             0,
         ),
@@ -129,30 +163,24 @@ pub(crate) fn refusal_report(error: Level3DecodeError) -> Report
         Level3DecodeError::SchemeMismatch => wholes(10, 0, 0, 0, 0),
         Level3DecodeError::UnexpectedTrailingBytes { trailing_len } => wholes(
             11,
-            trailing_len as u64,
+            trailing_len.word(),
             0,
             0,
             0,
         ),
-        Level3DecodeError::SymbologyTruncated { len } => wholes(12, len as u64, 0, 0, 0),
+        Level3DecodeError::SymbologyTruncated { len } => wholes(12, len.word(), 0, 0, 0),
         Level3DecodeError::BadSymbologyHeader { divider, block_id } => wholes(
             13,
-            word_of_half(divider),
-            word_of_half(block_id),
+            divider.word(),
+            block_id.word(),
             0,
             0,
         ),
-        Level3DecodeError::UnsupportedPacketCode { code } => wholes(
-            14,
-            word_of_half(code),
-            0,
-            0,
-            0,
-        ),
+        Level3DecodeError::UnsupportedPacketCode { code } => wholes(14, code.word(), 0, 0, 0),
         Level3DecodeError::EmptySweep { n_radials, n_bins } => wholes(
             15,
-            n_radials as u64,
-            n_bins as u64,
+            n_radials.word(),
+            n_bins.word(),
             0,
             0,
         ),
@@ -163,12 +191,12 @@ pub(crate) fn refusal_report(error: Level3DecodeError) -> Report
             max,
         } => wholes(
             16,
-            n_radials as u64,
-            n_bins as u64,
-            cells as u64,
-            max as u64,
+            n_radials.word(),
+            n_bins.word(),
+            cells.word(),
+            max.word(),
         ),
-        Level3DecodeError::NonZeroFirstBin(bin) => wholes(17, bin as u64, 0, 0, 0),
+        Level3DecodeError::NonZeroFirstBin(bin) => wholes(17, bin.word(), 0, 0, 0),
         Level3DecodeError::AllocationExceedsBody {
             n_radials,
             n_bins,
@@ -176,62 +204,60 @@ pub(crate) fn refusal_report(error: Level3DecodeError) -> Report
             available,
         } => wholes(
             18,
-            n_radials as u64,
-            n_bins as u64,
-            needed as u64,
-            available as u64,
+            n_radials.word(),
+            n_bins.word(),
+            needed.word(),
+            available.word(),
         ),
         Level3DecodeError::TruncatedAtRadial { radial, n_radials } => wholes(
             19,
-            radial as u64,
-            n_radials as u64,
+            radial.word(),
+            n_radials.word(),
             0,
             0,
         ),
         Level3DecodeError::ImplausibleRadialWidth { radial, width_deg } => with_float(
             20,
-            radial as u64,
+            radial.word(),
             width_deg,
         ),
         Level3DecodeError::RadialByteCountMismatch {
             radial,
             n_bytes,
             n_bins,
-        } => wholes(21, radial as u64, n_bytes as u64, n_bins as u64, 0),
+        } => wholes(21, radial.word(), n_bytes.word(), n_bins.word(), 0),
         Level3DecodeError::RleExpansionMismatch {
             radial,
             expanded,
             expected,
-        } => wholes(22, radial as u64, expanded as u64, expected as u64, 0),
+        } => wholes(22, radial.word(), expanded.word(), expected.word(), 0),
         Level3DecodeError::XdrTruncated {
             context,
             have,
             need,
-        } => wholes(23, item_number(context), have as u64, need as u64, 0),
+        } => wholes(23, item_number(context), have.word(), need.word(), 0),
         Level3DecodeError::XdrStringTooLong { len, max } => wholes(
-            24, len as u64, max as u64, 0, 0,
-        ),
-        Level3DecodeError::XdrArrayTooLong { len, max } => wholes(25, len as u64, max as u64, 0, 0),
-        Level3DecodeError::XdrListTooLong { len, max } => wholes(
-            26,
-            word_of(len),
-            word_of(max),
+            24,
+            len.word(),
+            max.word(),
             0,
             0,
         ),
-        Level3DecodeError::UnsupportedXdrComponent(kind) => wholes(27, word_of(kind), 0, 0, 0),
-        Level3DecodeError::UnexpectedXdrComponentCount(n) => wholes(28, n as u64, 0, 0, 0),
+        Level3DecodeError::XdrArrayTooLong { len, max } => wholes(25, len.word(), max.word(), 0, 0),
+        Level3DecodeError::XdrListTooLong { len, max } => wholes(26, len.word(), max.word(), 0, 0),
+        Level3DecodeError::UnsupportedXdrComponent(kind) => wholes(27, kind.word(), 0, 0, 0),
+        Level3DecodeError::UnexpectedXdrComponentCount(n) => wholes(28, n.word(), 0, 0, 0),
         Level3DecodeError::NonPositiveXdrGeometry { n_radials, n_bins } => wholes(
             29,
-            word_of(n_radials),
-            word_of(n_bins),
+            n_radials.word(),
+            n_bins.word(),
             0,
             0,
         ),
         Level3DecodeError::ImplausibleXdrRadialCount { n_radials, max } => wholes(
             30,
-            word_of(n_radials),
-            word_of(max),
+            n_radials.word(),
+            max.word(),
             0,
             0,
         ),
@@ -239,12 +265,12 @@ pub(crate) fn refusal_report(error: Level3DecodeError) -> Report
             radial,
             n_bins,
             expected,
-        } => wholes(31, radial as u64, n_bins as u64, expected as u64, 0),
+        } => wholes(31, radial.word(), n_bins.word(), expected.word(), 0),
         Level3DecodeError::XdrRadialDataLengthMismatch {
             radial,
             declared,
             num_bins,
-        } => wholes(32, radial as u64, declared as u64, num_bins as u64, 0),
+        } => wholes(32, radial.word(), declared.word(), num_bins.word(), 0),
         Level3DecodeError::XdrGridTooLarge {
             n_radials,
             n_bins,
@@ -252,26 +278,26 @@ pub(crate) fn refusal_report(error: Level3DecodeError) -> Report
             max,
         } => wholes(
             33,
-            n_radials as u64,
-            n_bins as u64,
-            cells as u64,
-            max as u64,
+            n_radials.word(),
+            n_bins.word(),
+            cells.word(),
+            max.word(),
         ),
         Level3DecodeError::XdrRawLevelOutOfRange {
             radial,
             gate,
             value,
-        } => wholes(34, radial as u64, gate as u64, word_of(value), 0),
-        Level3DecodeError::XdrTrailingBytes { remaining } => wholes(35, remaining as u64, 0, 0, 0),
+        } => wholes(34, radial.word(), gate.word(), value.word(), 0),
+        Level3DecodeError::XdrTrailingBytes { remaining } => wholes(35, remaining.word(), 0, 0, 0),
         Level3DecodeError::BufferTooShort { buffer } => wholes(36, buffer_number(buffer), 0, 0, 0),
-        Level3DecodeError::PlanMalformed { offset } => wholes(37, offset as u64, 0, 0, 0),
-        Level3DecodeError::FieldRepeated { offset } => wholes(38, offset as u64, 0, 0, 0),
-        Level3DecodeError::StripOutside { offset } => wholes(39, offset as u64, 0, 0, 0),
+        Level3DecodeError::PlanMalformed { offset } => wholes(37, offset.word(), 0, 0, 0),
+        Level3DecodeError::FieldRepeated { offset } => wholes(38, offset.word(), 0, 0, 0),
+        Level3DecodeError::StripOutside { offset } => wholes(39, offset.word(), 0, 0, 0),
         Level3DecodeError::TariffMalformed => wholes(40, 0, 0, 0, 0),
         Level3DecodeError::TotalTooLarge => wholes(41, 0, 0, 0, 0),
         Level3DecodeError::RowTooLong => wholes(42, 0, 0, 0, 0),
         Level3DecodeError::DifferentSweeps => wholes(43, 0, 0, 0, 0),
-        Level3DecodeError::RowsDisagree { radial } => wholes(44, radial as u64, 0, 0, 0),
+        Level3DecodeError::RowsDisagree { radial } => wholes(44, radial.word(), 0, 0, 0),
     }
 }
 
@@ -281,13 +307,8 @@ pub(crate) fn with_place(report: Report, place: usize, n: usize) -> Report
     ensures { result ≡ with_place report place n }
 {
     let mut ints = report.ints;
-    ints[place] = n as u64;
-    let floats = report.floats;
-    Report {
-        number: report.number,
-        ints,
-        floats,
-    }
+    ints[place] = n.word();
+    Report { ints, ..report }
 }
 
 // The same with a position in its place.
@@ -346,9 +367,14 @@ pub(crate) fn write_answer<T: Reported>(
 }
 
 // The same of an item that a cursor read, with the position where it ended.
-pub(crate) fn write_ended<T: Reported>(item: Ended<T>, ints: &mut [u64], floats: &mut [f64]) -> u32
-    ensures { Leaves (said (ended_report (ended item.answer item.at) T.places))
+pub(crate) fn write_ended<T: Reported>(
+    given: Result<T, Level3DecodeError>,
+    at: usize,
+    ints: &mut [u64],
+    floats: &mut [f64],
+) -> u32
+    ensures { Leaves (said (ended_report (ended given at) T.places))
         result ints.old ints.new floats.old floats.new }
 {
-    write_report(with_position(report_of(item.answer), item.at), ints, floats)
+    write_report(with_position(report_of(given), at), ints, floats)
 }

@@ -26,6 +26,7 @@ pub fn l3_float(file: &[u8], block: usize, ints: &mut [u64], floats: &mut [f64])
     write_answer(scale::pdb::value_scaling_float(file, block), ints, floats)
 }
 
+// By hand: its parameters are C's; l3_charge is like it in form alone.
 pub fn l3_precip(
     file: &[u8],
     block: usize,
@@ -64,26 +65,27 @@ pub fn l3_threshold(
         return 101;
     }
     match scale::pdb::threshold_data(file, block) {
-        Ok(bytes) => {
-            thresholds.copy_from_slice(&bytes);
+        Ok(copy) => {
+            thresholds.copy_from_slice(&copy.bytes);
             write_report(().report(), ints, floats)
         }
         Err(error) => write_report(refusal_report(error), ints, floats),
     }
 }
 
-#[tactic(auto, unfolding(crate::specs::Entries::levels_said))]
+#[tactic(auto, using(crate::proofs::Answers::over_all), unfolding(crate::specs::Entries::levels_said))]
 pub fn l3_legacy16(thresholds: &[u8], post_scale: f32, levels: &mut [f32]) -> u32
     ensures value { result ≡ plain_number (levels_said thresholds.now post_scale (length levels.old)) }
     ensures levels_after { levels.new
         ≡ plain_after (levels_said thresholds.now post_scale (length levels.old)) levels.old }
 {
-    if thresholds.len() != 32 || levels.len() != 16 {
+    let Ok(bytes) = <&[u8; 32]>::try_from(thresholds) else {
+        return 101;
+    };
+    if levels.len() != 16 {
         return 101;
     }
-    let mut bytes = [0u8; 32];
-    bytes.copy_from_slice(thresholds);
-    levels.copy_from_slice(&scale::legacy16::decode_legacy16(&bytes, post_scale));
+    levels.copy_from_slice(&scale::legacy16::decode_legacy16(bytes, post_scale));
     0
 }
 

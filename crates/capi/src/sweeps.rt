@@ -94,6 +94,7 @@ pub fn l3_gaps(
     write_answer(answer, ints, floats)
 }
 
+// By hand: its parameters are C's; l3_totals is like it in form alone.
 pub fn l3_merge(
     file: &[u8],
     clock: u64,
@@ -123,6 +124,7 @@ pub fn l3_merge(
     write_answer(answer, ints, floats)
 }
 
+// By hand: its parameters are C's; l3_merge is like it in form alone.
 pub fn l3_totals(
     file: &[u8],
     clock: u64,

@@ -1,9 +1,9 @@
 // The reports of small values: nothing, a number, a signed number, a float, two floats, a part of the payload, a date, a charge.
 ghost use Rattle.std.specs.Prelude.{◌≡◌};
-ghost use Rattle.capi.specs.Places.{no_report, number_report, signed_report, float_report, pair_report, number_found, signed_found};
+ghost use Rattle.capi.specs.Places.{no_report, word_report, float_report, pair_report, found};
 ghost use Rattle.capi.specs.Places.{part_report, date_report, charge_report};
 
-use crate::report::{INTS, Report, Reported, wholes, with_float, word_of, word_of_half};
+use crate::report::{Report, Reported, Whole, wholes, with_float};
 use calendar::date::Date;
 use head::pdb::F32Pair;
 use tariff::charge::Charge;
@@ -17,51 +17,11 @@ impl Reported for () {
     }
 }
 
-impl Reported for u16 {
-    ghost places = { number_report };
+impl<T: Whole> Reported for T {
+    ghost places = { word_report T.held };
 
     fn report(self) -> Report {
-        wholes(0, self as u64, 0, 0, 0)
-    }
-}
-
-impl Reported for u32 {
-    ghost places = { number_report };
-
-    fn report(self) -> Report {
-        wholes(0, self as u64, 0, 0, 0)
-    }
-}
-
-impl Reported for u64 {
-    ghost places = { number_report };
-
-    fn report(self) -> Report {
-        wholes(0, self, 0, 0, 0)
-    }
-}
-
-impl Reported for usize {
-    ghost places = { number_report };
-
-    fn report(self) -> Report {
-        wholes(0, self as u64, 0, 0, 0)
-    }
-}
-
-impl Reported for i16 {
-    ghost places = { signed_report };
-
-    fn report(self) -> Report {
-        wholes(0, word_of_half(self), 0, 0, 0)
-    }
-}
-
-impl Reported for i32 {
-    ghost places = { signed_report };
-
-    fn report(self) -> Report {
-        wholes(0, word_of(self), 0, 0, 0)
+        wholes(0, self.word(), 0, 0, 0)
     }
 }
 
@@ -69,9 +29,7 @@ impl Reported for f32 {
     ghost places = { float_report };
 
     fn report(self) -> Report {
-        let mut report = wholes(0, 0, 0, 0, 0);
-        report.floats[0] = std::num::f32_to_f64_with_nan(self);
-        report
+        with_float(0, 0, self)
     }
 }
 
@@ -79,41 +37,18 @@ impl Reported for F32Pair {
     ghost places = { pair_report };
 
     fn report(self) -> Report {
-        let mut report = wholes(0, 0, 0, 0, 0);
-        report.floats[0] = std::num::f32_to_f64_with_nan(self.scale);
-        report.floats[1] = std::num::f32_to_f64_with_nan(self.offset);
+        let mut report = with_float(0, 0, self.scale);
+        report.floats[1] = f64::from(self.offset);
         report
     }
 }
 
-impl Reported for Option<u16> {
-    ghost places = { number_found };
+impl<T: Whole> Reported for Option<T> {
+    ghost places = { found T.held };
 
     fn report(self) -> Report {
         match self {
-            Some(n) => wholes(0, 1, n as u64, 0, 0),
-            None => wholes(0, 0, 0, 0, 0),
-        }
-    }
-}
-
-impl Reported for Option<i16> {
-    ghost places = { signed_found };
-
-    fn report(self) -> Report {
-        match self {
-            Some(n) => wholes(0, 1, word_of_half(n), 0, 0),
-            None => wholes(0, 0, 0, 0, 0),
-        }
-    }
-}
-
-impl Reported for Option<i32> {
-    ghost places = { signed_found };
-
-    fn report(self) -> Report {
-        match self {
-            Some(n) => wholes(0, 1, word_of(n), 0, 0),
+            Some(n) => wholes(0, 1, n.word(), 0, 0),
             None => wholes(0, 0, 0, 0, 0),
         }
     }
@@ -123,7 +58,7 @@ impl Reported for Part {
     ghost places = { part_report };
 
     fn report(self) -> Report {
-        wholes(0, self.start as u64, self.len as u64, 0, 0)
+        wholes(0, self.start.word(), self.len.word(), 0, 0)
     }
 }
 
@@ -131,7 +66,13 @@ impl Reported for Date {
     ghost places = { date_report };
 
     fn report(self) -> Report {
-        wholes(0, self.year as u64, self.month as u64, self.day as u64, 0)
+        wholes(
+            0,
+            self.year.word(),
+            u64::from(self.month),
+            u64::from(self.day),
+            0,
+        )
     }
 }
 

@@ -5,7 +5,7 @@ use mathlib.Core.List.{List, [], ◌∷◌, ◌++◌, map, append_assoc, append-
 use mathlib.Core.Path.{◌≡◌, refl, sym, ap, ◌∙◌}
 use lib.ListN.{length, get_or, take, drop, length-append, length-drop, drop_of_length-le}
 use lib.Seq.{take_at, drop_at, drop-drop, take_all}
-use native.Mathlib.Nat.{mul-add, mul-le-mul_left}
+use native.Mathlib.Nat.{mul-add, mul-le-mul, mul-le-mul_left}
 use borrow.Rule.Slice.PartMut.{put_mid}
 use lib.Dec.{ltb}
 use mir.Syntax.{w8}
@@ -156,3 +156,7 @@ module _ (s out : List ℕ) where
             let a : h.radials * (6 + count_for h.bins) ≡ h.radials * 6 + (h.radials * h.bins + h.radials * (h.bins % 2)) = mul-add h.radials 6 (count_for h.bins) ∙ ap (λ n. h.radials * 6 + n) (mul-add h.radials h.bins (h.bins % 2)) in
             let b : h.radials * (h.bins % 2) ≤ h.radials * 1 = mul-le-mul_left h.radials (omega arith) in
             (omega (arith, se), omega (arith, se, a, b, k))
+
+-- the data of all radials fits
+pub data_small : (n each : ℕ) → n < 65536 → each ≤ 65542 → n * each ≤ 65535 * 65542
+data_small n each h k = let a : n ≤ 65535 = omega arith in mul-le-mul a k

@@ -150,10 +150,6 @@ module _ (kept : ℕ) (h : Header) {beams : List Beam} {rows : List (List ℕ)} 
   unfolding packet16_body head_bytes u16_at
   at_20 = sym (half_again h.bins)
 
-  pub at_22 : kept ≡ u32_at (packet16_body kept h beams rows) 22
-  unfolding packet16_body head_bytes u16_at u32_at
-  at_22 = sym (word_again kept)
-
   pub at_26 : h.range ≡ u16_at (packet16_body kept h beams rows) 26
   unfolding packet16_body head_bytes u16_at
   at_26 = sym (half_again h.range)

@@ -4,11 +4,11 @@ ghost use Rattle.wire.specs.Result.{answer, lent};
 ghost use Rattle.export.specs.Export.{count_for, head_bytes, export_of, length_in};
 ghost use Rattle.export.specs.Steps.{head_in};
 
-use crate::radials::{high, low};
 use symbology::radials::PacketHeader;
 use wire::error::{Buffer, Level3DecodeError};
 
 // How long the written body is.
+#[tactic(auto, using(crate::proofs::Entry::data_small))]
 fn size_of(n_radials: usize, n_bins: usize) -> usize
     requires { (n_radials < 65536) × (n_bins < 65536) }
     ensures { result ≡ 30 + n_radials * (6 + count_for n_bins) }
@@ -18,55 +18,26 @@ fn size_of(n_radials: usize, n_bins: usize) -> usize
     30 + data
 }
 
-// Bytes 0-29, of which 22-25 are the original's, `kept`.
+// Bytes 0-29, of which 22-25 are the original's, `kept`. Not inlined: it runs once, and beside the loop over the radials it slows that. Any
+// caller can make a `PacketHeader`, so that its bounds stand in clauses here.
+#[inline(never)]
+#[tactic(auto, unfolding(crate::specs::Export::head_bytes))]
 fn write_header(h: PacketHeader, kept: u32, size: usize, part: &mut [u8])
     requires part_len { (length part.old ≡ 30) × (30 ≤ size) × (size < 4294967296) }
     requires n_radials_bound { (h.n_radials < 65536) × (h.n_bins < 65536) }
     ensures { part.new ≡ head_bytes size kept (head_in h) }
 {
-    let upper = (size / 65536) as u16;
-    let lower = (size % 65536) as u16;
     let rest = size - 16;
-    let rest_upper = (rest / 65536) as u16;
-    let rest_lower = (rest % 65536) as u16;
-    let bins = h.n_bins as u16;
-    let kept_upper = (kept / 65536) as u16;
-    let kept_lower = (kept % 65536) as u16;
-    let range = h.range_scale;
-    let radials = h.n_radials as u16;
-    let thirty = [
-        0xFF,
-        0xFF,
-        0,
-        1,
-        high(upper),
-        low(upper),
-        high(lower),
-        low(lower),
-        0,
-        1,
-        0xFF,
-        0xFF,
-        high(rest_upper),
-        low(rest_upper),
-        high(rest_lower),
-        low(rest_lower),
-        0,
-        16,
-        0,
-        0,
-        high(bins),
-        low(bins),
-        high(kept_upper),
-        low(kept_upper),
-        high(kept_lower),
-        low(kept_lower),
-        high(range),
-        low(range),
-        high(radials),
-        low(radials),
-    ];
-    part.copy_from_slice(&thirty);
+    // In range by the proof: `try_from` would be a test that cannot fail.
+    part[..4].copy_from_slice(&[0xFF, 0xFF, 0, 1]);
+    part[4..8].copy_from_slice(&(size as u32).to_be_bytes());
+    part[8..12].copy_from_slice(&[0, 1, 0xFF, 0xFF]);
+    part[12..16].copy_from_slice(&(rest as u32).to_be_bytes());
+    part[16..20].copy_from_slice(&[0, 16, 0, 0]);
+    part[20..22].copy_from_slice(&(h.n_bins as u16).to_be_bytes());
+    part[22..26].copy_from_slice(&kept.to_be_bytes());
+    part[26..28].copy_from_slice(&h.range_scale.to_be_bytes());
+    part[28..].copy_from_slice(&(h.n_radials as u16).to_be_bytes());
 }
 
 // The body of packet 16 for an AF1F body that symbology accepts, in the front of the buffer; the answer is its length. A refusal writes

@@ -1,5 +1,5 @@
 // The radials of an accepted original, written as packet 16's.
-ghost use Rattle.std.specs.Prelude.{◌≡◌, ◌+◌, ◌*◌, ◌/◌, ◌%◌, ◌≤◌, ◌<◌, ◌++◌, length};
+ghost use Rattle.std.specs.Prelude.{◌≡◌, ◌+◌, ◌*◌, ◌≤◌, ◌<◌, ◌++◌, length};
 ghost use Rattle.wire.specs.Bytes.{u16_at};
 ghost use Rattle.wire.specs.Result.{lent};
 ghost use Rattle.wire.specs.Reading.{run};
@@ -12,32 +12,14 @@ ghost use Rattle.export.specs.Steps.{beam_at, data_at};
 use symbology::cells::write_row_bytes;
 use symbology::radials::count_at;
 
-pub fn high(n: u16) -> u8
-    ensures { result ≡ n / 256 }
-{
-    (n / 256) as u8
-}
-
-pub fn low(n: u16) -> u8
-    ensures { result ≡ n % 256 }
-{
-    (n % 256) as u8
-}
-
 // A radial's six bytes.
 fn write_beam(count: u16, start: u16, width: u16, part: &mut [u8])
     requires { length part.old ≡ 6 }
     ensures { part.new ≡ two count ++ two start ++ two width }
 {
-    let six = [
-        high(count),
-        low(count),
-        high(start),
-        low(start),
-        high(width),
-        low(width),
-    ];
-    part.copy_from_slice(&six);
+    part[..2].copy_from_slice(&count.to_be_bytes());
+    part[2..4].copy_from_slice(&start.to_be_bytes());
+    part[4..].copy_from_slice(&width.to_be_bytes());
 }
 
 // One radial, and the place of the next in the original.
@@ -52,6 +34,7 @@ fn write_radial(body: &[u8], at: usize, n_bins: usize, part: &mut [u8]) -> usize
     let start = wire::bytes::u16_at(body, at + 2);
     let width = wire::bytes::u16_at(body, at + 4);
     let end = 6 + n_bins;
+    // In range by the proof: `try_from` would be a test that cannot fail.
     write_beam((n_bins + n_bins % 2) as u16, start, width, &mut part[..6]);
     write_row_bytes(&body[from..to], &mut part[6..end]);
     part[end..].fill(0);
@@ -67,6 +50,7 @@ pub fn write_radials(body: &[u8], n_radials: usize, n_bins: usize, out: &mut [u8
 {
     let size = 6 + (n_bins + n_bins % 2);
     let mut at: usize = 30;
+    // Counted by hand: no clause tells what is written through `chunks_mut`.
     let mut place: usize = 0;
     for _ in 0..n_radials {
         let end = place + size;

@@ -15,9 +15,10 @@ use Rattle.wire.specs.Bytes.{u16_at}
 use Rattle.wire.proofs.Numbers.{half_small}
 use Rattle.scale.specs.Scaling.{valid}
 use Rattle.symbology.specs.Words.{Bytes}
+use Rattle.fields.specs.declared.plan.Entry.{Entry}
 use Rattle.fields.specs.declared.plan.Record.{Record}
 use Rattle.fields.specs.declared.plan.Record.TheVariants.{Field, Strip, Malformed}
-use Rattle.fields.specs.Plan.{record_at, size_of, strips_in, Entry, after, entries_in, entries_from, entries_of, strip_count}
+use Rattle.fields.specs.Plan.{record_at, size_of, strips_in, after, entries_in, entries_from, entries_of, strip_count}
 use Rattle.fields.specs.Totals.{Grid, counts, sum, most, strip_total, own_total, totals, items}
 
 -- the gates and the weight of a strip are halfwords

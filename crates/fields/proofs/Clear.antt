@@ -21,9 +21,10 @@ use Rattle.symbology.proofs.Clear.{clear_alike}
 use Rattle.sweep.specs.Sweep.{Accepted, sweep_of}
 use Rattle.sweep.specs.Clear.{clear_sweep, NoRows}
 use Rattle.sweep.proofs.Clear.{lent_nothing, clear_sweep_lem, clear_rows, clear_sweeps}
+use Rattle.fields.specs.declared.plan.Entry.{Entry}
 use Rattle.fields.specs.declared.plan.Record.{Record}
 use Rattle.fields.specs.declared.plan.Record.TheVariants.{Field, Strip, Malformed}
-use Rattle.fields.specs.Plan.{Entry, entries_of, fields_in, bad_at, repeated_at, leaves, outside_at, refuse_first, field_count, plan_of}
+use Rattle.fields.specs.Plan.{entries_of, fields_in, bad_at, repeated_at, leaves, outside_at, refuse_first, field_count, plan_of}
 use Rattle.fields.specs.Totals.{Grid, sum, strip_total, own_total, totals, items}
 use Rattle.fields.specs.Fields.{TotalsAnswer, rain_of, Totalled, grid_of, planned, totals_of, totals_in, TotalsBuffers, TotalsRan}
 use Rattle.fields.specs.Clear.{is_strip, strips_at, clear_planned, clear_totals}

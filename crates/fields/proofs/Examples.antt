@@ -1,7 +1,6 @@
 -- Small plans, computed. Assumes nothing.
 use Rattle.std.specs.Prelude.{None}
 use Rattle.wire.specs.Bytes.{u16_at}
-use Rattle.wire.specs.Text.{member}
 use mathlib.Core.Path.{◌≡◌, refl}
 use mathlib.Core.List.{List, [], ◌∷◌}
 use Prim.Native.Nat.{ℕ}

@@ -1,5 +1,5 @@
 -- The sweep reading with totals by way of the sweep's check and the plan's, a law for each answer of the code. Assumes nothing.
-use Prim.Native.Nat.{ℕ, ◌+◌, ◌*◌, ◌≤◌, ◌<◌}
+use Prim.Native.Nat.{ℕ, ◌+◌, ◌*◌, ◌≤◌}
 use mathlib.Core.Bool.{Bool, true, false}
 use mathlib.Core.List.{List, [], ◌∷◌, ◌++◌}
 use native.Mathlib.Omega.{arith}
@@ -9,42 +9,27 @@ use lib.Dec.{ltb}
 use lib.Ieee.{Float}
 use lib.ListN.{length, take, drop, length-append}
 use lib.Seq.{length-take-le}
-use borrow.Author.Tests.{ltb-false, lt-ltb, le-ltb}
+use borrow.Author.Tests.{ltb-false}
 use Rattle.std.specs.Prelude as Std
-use Rattle.wire.specs.Refusal.{Refusal, kind, buffer, refusal_of}
+use Rattle.wire.specs.Refusal.{Refusal, kind, buffer}
 use Rattle.wire.specs.Result.{Result, accepted, refused, refuse, then, lent, answer}
 use Rattle.wire.specs.declared.error.Buffer.TheVariants as Buffer
-use Rattle.wire.specs.declared.error.Level3DecodeError.{Level3DecodeError}
 use Rattle.wire.proofs.Results.{clash, one_value, through, passed}
 use Rattle.scale.specs.declared.scaling.LinearScale.{LinearScale}
 use Rattle.scale.specs.declared.scaling.PrecipScale.{PrecipScale}
 use Rattle.scale.specs.declared.physical.Scheme.{Scheme}
 use Rattle.scale.specs.declared.physical.Scaling.{Scaling}
-use Rattle.symbology.specs.declared.figures.Figures.{Figures}
-use Rattle.symbology.specs.Answers.{Picture, picture_of, figures_in}
+use Rattle.symbology.specs.Answers.{Picture, picture_of}
 use Rattle.sweep.specs.declared.plan.Head.{Head}
 use Rattle.sweep.specs.declared.sweep.Sweep.{Sweep}
 use Rattle.sweep.specs.Sweep.{head_of, Accepted, sweep_of, sweep_in}
 use Rattle.sweep.proofs.Parts.{Sizes, sizes, codes_fit}
-use Rattle.sweep.proofs.Reading.{no_picture_lem, refused_in, given_in, front_is}
+use Rattle.sweep.proofs.Reading.{no_picture_lem, given_in, front_is}
 use Rattle.fields.specs.declared.fields.Checked.{Checked}
 use Rattle.fields.specs.Plan.{entries_of, plan_of}
 use Rattle.fields.specs.Totals.{grid, totals, items}
 use Rattle.fields.specs.Fields.{TotalsAnswer, rain_scale, rain_of, Totalled, grid_of, planned, totals_of, totals_in, checked_in, checked_on, totals_buffers, TotalsRan}
 use Rattle.fields.proofs.Writing as writing
-
--- ---- another scheme
-
--- 10, once symbology has passed
-abbrev no_rain : Result Picture → Result Checked
-no_rain z = then z λ _. refused (kind 10 [])
-
-module _ (body : List ℕ) where
-  pub no_figures : {x : Refusal} → refused x ≡ figures_in (picture_of body) → refused x ≡ no_rain (picture_of body)
-  no_figures e = sym (ap no_rain (refused_in (λ (p : Picture). p.figures) (picture_of body) e))
-
-  pub some_figures : {f : Figures} → accepted f ≡ figures_in (picture_of body) → refused (kind 10 []) ≡ no_rain (picture_of body)
-  some_figures e = sym (ap no_rain (given_in (λ (p : Picture). p.figures) (picture_of body) e).1)
 
 -- ---- the plan over a sweep
 
@@ -155,9 +140,6 @@ module _ (scheme : Scheme) (file : List ℕ) (clock : ℕ) (body plan : List ℕ
         physical = v ∙ ap (λ d. lent d (λ t. t.sweep.physical) ph) e;
         totals = o ∙ ap (λ d. lent d (λ t. t.totals) ts) e;
       }
-
-  pub refuses : {x : Level3DecodeError} → refused (refusal_of x) ≡ checked_in D → Reads (Std.Err x) az cs ph ts
-  refuses e = told (sym (refused_in check_of D e)) refl refl refl refl refl
 
   -- what is known once all tests have passed
   pub record Passed (k : Checked) : Type 0 where

@@ -3,9 +3,7 @@ pub mod Records
 pub mod Laws
 pub mod Moves
 pub mod Marking
-pub mod Checks
 pub mod Sums
-pub mod Owning
 pub mod Writing
 pub mod Theorems
 pub mod Examples

@@ -5,8 +5,8 @@ use Rattle.wire.specs.Bytes.{u16_at, u32_at, i16_at, i32_at, signed}
 use Rattle.wire.specs.Float.{f32, f64, f32_at}
 use Rattle.wire.specs.Products.{codes, known}
 use Rattle.wire.specs.Reading.{run, more, after_row, ◌>>=◌, ◌>>◌, remaining, u16, u32, unread, radial_data, refuse_if}
-use Rattle.wire.specs.Text.{same, member, all, leading, trim_front, trim_end}
-use Rattle.head.specs.Header.{token, cut, first_token, blank, alphanumeric, message_header, first_of, header_at, scan_time}
+use Rattle.wire.specs.Text.{leading, trim_front, trim_end}
+use Rattle.head.specs.Header.{token, cut, first_token, message_header, first_of, header_at, scan_time}
 use Rattle.head.specs.Pdb.{pdb_fields, hw_i32, hw_i16, hw_u16, hw_pair, field_at}
 use Rattle.scale.specs.Pdb.{value_scaling_linear_hw, scale_pair, precip_family_scale}
 use Rattle.scale.specs.Physical.{scale_fields, declared_scale, physical_of, value_of}
@@ -17,7 +17,6 @@ use Rattle.symbology.specs.Rows.{row_of, row16, words, push, levels, row28}
 use Rattle.symbology.specs.Symbology.{symbology, packet_of, radial_packet, packet_header, first_bin, over_body, radial_walk, radial, frame, covered, count_wrong, generic_packet, body_short, payload, product_block, component, component_head, xdr_radials, xdr_radial, xdr_walk, xdr_frame, only}
 use Rattle.sweep.specs.Sweep.{head_of, allowed, room_for, finish, sweep_of}
 use lib.Ieee.{neg, eq}
-use lib.Ieee.Scale.{finite}
 use Rattle.fields.specs.Plan.{record_at, entries_in, entries_from, bad_at, repeated_at, outside_at, field_count, plan_of}
 use Rattle.fields.specs.Totals.{counts, sum, strip_total, own_total, totals}
 use Rattle.fields.specs.Fields.{rain_of, planned, totals_of}

@@ -3,32 +3,15 @@ use mathlib.Core.Path.{◌≡◌, refl, ap, ◌∙◌}
 use mathlib.Core.Bool.{Bool, true, false, cond, ◌&&◌}
 use mathlib.Core.List.{List, [], ◌∷◌, map}
 use Prim.Native.Nat.{ℕ, ◌+◌, ◌*◌, ◌-◌, ◌≤◌, ◌<◌}
-use native.Mathlib.Nat.{mul-zero, mul-add, mul-le-mul, add_assoc, zero-add, add-zero}
+use native.Mathlib.Nat.{mul-zero, mul-add, mul-le-mul, add_assoc, add-zero, add-sub_cancel_left}
 use native.Mathlib.Numerals.{add-one}
 use native.Mathlib.Omega.{arith}
 use lib.Dec.{leb}
-use lib.ListN.{length, get_or, drop, drop_of_length-le}
+use lib.ListN.{length, get_or, take, drop, drop_of_length-le}
 use lib.Seq.{drop-cons}
-use borrow.Author.Tests.{le-leb, lt-leb}
+use borrow.Author.Tests.{le-leb}
 use Rattle.std.specs.Prelude.{Option, Some, None}
-use Rattle.fields.specs.Totals.{counts, top_of, sum, most}
-
--- the answers of `counted`
-module _ (floor top code : ℕ) where
-  abbrev Says : ℕ → Type 0
-  Says r = (r ≡ counts floor (Some top) code) × ((r ≤ 65535) × (code < 65536))
-
-  pub below : code < floor → code < 65536 → Says 0
-  unfolding counts
-  below h hc = (rw (lt-leb floor code h), (omega arith, hc))
-
-  pub above : floor ≤ code → top < code → code < 65536 → Says 0
-  unfolding counts
-  above l h hc = (rw (le-leb floor code l, lt-leb code top h), (omega arith, hc))
-
-  pub between : floor ≤ code → code ≤ top → code < 65536 → Says (code - floor)
-  unfolding counts
-  between l h hc = (rw (le-leb floor code l, le-leb code top h), (omega arith, hc))
+use Rattle.fields.specs.Totals.{Grid, counts, top_of, sum, most, strip_total}
 
 -- up to the highest code that may be valid is up to the ceiling
 top_counts : (floor code : ℕ) (c : Option ℕ) → code < 65536 → counts floor (Some (top_of c)) code ≡ counts floor c code
@@ -48,9 +31,6 @@ to_ceiling floor code c i e = (e.0 ∙ ap (λ t. counts floor (Some t) code) i �
 pub record Adding (f : ℕ → ℕ) (cells : List ℕ) (total i : ℕ) : Type 0 where
   pub small : total ≤ i * 65535
   pub left : total + sum (map f (drop i cells)) ≡ sum (map f cells)
-
-pub adding_first : (f : ℕ → ℕ) (cells : List ℕ) → Adding f cells 0 0
-adding_first f cells = record { small = omega arith; left = zero-add _ }
 
 module _ {f : ℕ → ℕ} {cells : List ℕ} {total i : ℕ} (w : Adding f cells total i) where
   pub adding_end : length cells ≤ i → i ≤ 65535 → (total ≡ sum (map f cells)) × (total ≤ 65535 * 65535)
@@ -75,3 +55,10 @@ pub strip_is : (w : ℕ) (f : ℕ → ℕ) (cells : List ℕ) {n : ℕ} → w < 
 strip_is w f cells {n} h e =
     let a : w ≤ 65535 = omega arith in
     (ap (λ k. w * k) e.0 ∙ weighed w f cells, omega (arith, mul-le-mul a e.1))
+
+-- a strip's total, of the part that the code takes
+pub part_total : (p : Grid) (r g c wt : ℕ) {t : ℕ}
+    → t ≡ sum (map (λ code. wt * counts p.floor p.ceiling code) (take (r * p.bins + g + c - (r * p.bins + g)) (drop (r * p.bins + g) p.codes)))
+    → t ≡ strip_total p r g c wt
+unfolding strip_total
+part_total p r g c wt e = rw add-sub_cancel_left at e

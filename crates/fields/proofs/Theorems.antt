@@ -9,13 +9,13 @@ use lib.Dec.{leb, ltb}
 use lib.ListN.{length, get_or}
 use borrow.Author.Tests.{leb-true, not-false}
 use Rattle.wire.specs.Result.{accepted}
+use Rattle.fields.specs.declared.plan.Entry.{Entry}
 use Rattle.fields.specs.declared.plan.Record.{Record}
 use Rattle.fields.specs.declared.plan.Record.TheVariants.{Field, Strip, Malformed}
 use Rattle.scale.specs.Scaling.{valid}
-use Rattle.fields.specs.Plan.{Entry, entries_of, fields_in, strips_in, bad, bad_at, leaves, outside_at, plan_of}
+use Rattle.fields.specs.Plan.{entries_of, fields_in, strips_in, bad, bad_at, leaves, outside_at, plan_of}
 use Rattle.fields.specs.Totals.{Grid, totals, items, weights}
-use Rattle.fields.proofs.Walk.{and_both}
-use Rattle.fields.proofs.Owning.{none_picked}
+use Rattle.fields.proofs.Walk.{and_both, none_picked}
 use Rattle.fields.proofs.Writing.{passed}
 use Rattle.fields.specs.WithTotals.{Cut, Moved}
 use Rattle.fields.proofs.Laws.{cut, move}

@@ -1,36 +1,21 @@
 -- The records of a plan, one after the other, as the loops over them meet them. Assumes nothing.
-use Rattle.std.specs.Prelude.{Some, None}
-use Rattle.wire.specs.Bytes.{u16_at}
+use Rattle.std.specs.Prelude.{Option, Some, option_map, find, filter}
 use mathlib.Core.Path.{◌≡◌, refl, sym, ◌∙◌}
 use mathlib.Core.Bool.{Bool, true, false, cond, ◌&&◌}
 use mathlib.Core.List.{List, [], ◌∷◌}
 use Prim.Native.Nat.{ℕ, zero, suc, ◌+◌, ◌-◌, ◌≤◌, ◌<◌}
-use native.Mathlib.Nat.{add-zero, zero-add, add_assoc}
 use native.Mathlib.Omega.{arith}
-use lib.Dec.{eqb, leb}
-use lib.ListN.{length, get_or}
-use borrow.Author.Tests.{le-leb, lt-leb, lt-ltb, le-ltb, leb-true}
+use lib.Dec.{leb}
+use lib.ListN.{length}
+use borrow.Author.Tests.{le-leb, lt-leb}
+use Rattle.fields.specs.declared.plan.Entry.{Entry}
 use Rattle.fields.specs.declared.plan.Record.{Record}
 use Rattle.fields.specs.declared.plan.Record.TheVariants.{Field, Strip, Malformed}
-use Rattle.fields.specs.Plan.{record_at, size_of, fields_in, strips_in, Entry, after, entries_in, entries_from, entries_of, bad, bad_at, first_of, leaves, outside_at, field_count}
+use Rattle.fields.specs.Plan.{record_at, size_of, fields_in, after, entries_in, entries_from, bad_at, first_of, leaves, outside_at, field_count}
 
 pub and_both : (a : Bool) {b : Bool} → (a && b) ≡ true → (a ≡ true) × (b ≡ true)
 and_both true h = (refl, h)
 and_both false h = let z : ◌≡◌ {A = ℕ} 0 1 = cc in absurd (omega arith)
-
--- a record lies inside the plan
-size_in : (b d : Bool) (n r g c w at len : ℕ) → (b ≡ true → at + 5 ≤ len) → (d ≡ true → at + 11 ≤ len) → at ≤ len
-    → at + size_of (cond b (Field n) (cond d (Strip r g c w) Malformed)) ≤ len
-size_in true d n r g c w at len h k i = h refl
-size_in false true n r g c w at len h k i = k refl
-size_in false false n r g c w at len h k i = omega arith
-
-pub record_inside : (plan : List ℕ) (at : ℕ) → at ≤ length plan → at + size_of (record_at plan at) ≤ length plan
-unfolding record_at
-record_inside plan at i =
-    size_in (leb (at + 5) (length plan) && (eqb (get_or plan at 0) 1 && eqb (u16_at plan (at + 1)) 2))
-    (leb (at + 11) (length plan) && (eqb (get_or plan at 0) 2 && eqb (u16_at plan (at + 1)) 8)) _ _ _ _ _ at (length plan)
-    (λ h. leb-true _ _ (and_both (leb (at + 5) (length plan)) h).0) (λ h. leb-true _ _ (and_both (leb (at + 11) (length plan)) h).0) i
 
 -- what follows a record counts only where it has a size
 after_same : (x : Record) {es fs : List Entry} → (1 ≤ size_of x → es ≡ fs) → after x es ≡ after x fs
@@ -65,137 +50,69 @@ module _ (plan : List ℕ) (at : ℕ) where
             (at + size_of (record_at plan at)) (omega arith) (omega arith)),
       )
 
--- a record that is none of the malformed ones
-pub record Solid (x : Record) : Type 0 where
-  pub size : 1 ≤ size_of x
-  pub both : fields_in x + strips_in x ≤ size_of x
-  pub goes_on : (es : List Entry) → after x es ≡ es
+-- what is left after a record: where the next one begins, or nothing
+module _ (plan : List ℕ) {at : ℕ} (h : at < length plan) {x : Record} (e : x ≡ record_at plan at) {to : ℕ} where
+  pub field_left : {n : ℕ} → x ≡ Field n → to ≡ at + 5 → entries_from plan at ≡ record { at = at; item = x } ∷ entries_from plan to
+  field_left {n} i t = let j : record_at plan at ≡ Field n = sym e ∙ i in rw (t, e, j) (rw j at (entries_next plan at h))
 
-pub solid : (x : Record) → 1 ≤ size_of x → Solid x
-solid (Field n) h = record { size = h; both = omega arith; goes_on = λ es. refl }
-solid (Strip r g c w) h = record { size = h; both = omega arith; goes_on = λ es. refl }
-solid Malformed h = absurd (omega arith)
+  pub strip_left : {r g c w : ℕ} → x ≡ Strip r g c w → to ≡ at + 11 → entries_from plan at ≡ record { at = at; item = x } ∷ entries_from plan to
+  strip_left {r} {g} {c} {w} i t = let j : record_at plan at ≡ Strip r g c w = sym e ∙ i in rw (t, e, j) (rw j at (entries_next plan at h))
 
-good_solid : (fields strips : ℕ) (x : Record) → bad fields strips x ≡ false → 1 ≤ size_of x
-good_solid fields strips (Field n) h = omega arith
-good_solid fields strips (Strip r g c w) h = omega arith
-good_solid fields strips Malformed h = let z : ◌≡◌ {A = ℕ} 0 1 = cc in absurd (omega arith)
+  pub last_left : x ≡ Malformed → to ≡ length plan → entries_from plan at ≡ record { at = at; item = x } ∷ entries_from plan to
+  last_left i t =
+      let j : record_at plan at ≡ Malformed = sym e ∙ i in
+      rw (t, entries_end plan (length plan) (omega arith), e, j) (rw j at (entries_next plan at h))
 
--- the record that a walk stands at
-module _ (plan : List ℕ) {at : ℕ} (h : at < length plan) {x : Record} (e : x ≡ record_at plan at) {n : ℕ} (is-n : n ≡ size_of x) where
-  pub here : entries_from plan at ≡ record { at = at; item = x } ∷ after x (entries_from plan (at + n))
-  here = rw (is-n, e) (entries_next plan at h)
+-- there are no more records than bytes
+steps_few : (n : ℕ) (plan : List ℕ) (at : ℕ) → length (entries_in n plan at) ≤ n
+unfolding entries_in
+steps_few zero plan at = omega arith
+steps_few (suc n) plan at = by (leb (length plan) at) (record_at plan at) _ (steps_few n plan (at + size_of (record_at plan at)))
+  where
+    by : (b : Bool) (x : Record) (es : List Entry) → length es ≤ n → length (cond b [] (record { at = at; item = x } ∷ after x es)) ≤ suc n
+    by true x es l = omega arith
+    by false (Field m) es l = omega (arith, l)
+    by false (Strip r g c w) es l = omega (arith, l)
+    by false Malformed es l = omega arith
 
-  pub here_inside : at + n ≤ length plan
-  here_inside = rw (is-n, e) (record_inside plan at (omega arith))
+pub entries_few : (plan : List ℕ) (at : ℕ) → length (entries_from plan at) ≤ length plan
+unfolding entries_from
+entries_few plan at = omega (arith, steps_few (length plan - at) plan at)
 
-  pub here_solid : (n ≡ 0 → ⊥) → Solid x
-  here_solid ne = solid x (omega (arith, is-n))
+-- no offset picked
+pub none_picked : (b : Bool) (o : ℕ) (os : List ℕ) → cond b (o ∷ os) os ≡ [] → (b ≡ false) × (os ≡ [])
+none_picked true o os h = let z : ◌≡◌ {A = ℕ} 0 1 = cc in absurd (omega arith)
+none_picked false o os h = (refl, h)
 
-  pub here_on : (n ≡ 0 → ⊥) → entries_from plan at ≡ record { at = at; item = x } ∷ entries_from plan (at + n)
-  here_on ne = rw here (rw (here_solid ne).goes_on)
+-- the loop of `first_bad`: `es` are left of `all`
+pub record Bads (all es : List Entry) (fields strips : ℕ) : Type 0 where
+  pub few : fields + strips + length es ≤ length all
+  pub left : first_of (bad_at fields strips es) ≡ first_of (bad_at 0 0 all)
 
-  pub here_malformed : n ≡ 0 → x ≡ Malformed
-  here_malformed z = sizeless x (sym is-n ∙ z)
-    where
-      sizeless : (y : Record) → size_of y ≡ 0 → y ≡ Malformed
-      sizeless (Field m) q = absurd (omega arith)
-      sizeless (Strip r g c w) q = absurd (omega arith)
-      sizeless Malformed q = refl
-
--- the loop of `first_bad`
-pub record Bads (plan : List ℕ) (at fields strips : ℕ) : Type 0 where
-  pub inside : at ≤ length plan
-  pub few : fields + strips ≤ at
-  pub left : first_of (bad_at fields strips (entries_from plan at)) ≡ first_of (bad_at 0 0 (entries_of plan))
-
-pub bads_first : (plan : List ℕ) → Bads plan 0 0 0
-bads_first plan = record { inside = omega arith; few = omega arith; left = refl }
-
-pub bads_end : {plan : List ℕ} {at fields strips : ℕ} → Bads plan at fields strips → length plan ≤ at → None ≡ first_of (bad_at 0 0 (entries_of plan))
-unfolding bad_at
-bads_end {plan} {at} w h = rw (entries_end plan at h) at w.left
-
-module _ {plan : List ℕ} {at fields strips : ℕ} (w : Bads plan at fields strips) (h : at < length plan) {x : Record} (e : x ≡ record_at plan at) {b : Bool}
-    (i : b ≡ bad fields strips x) where
-  one : first_of (bad_at 0 0 (entries_of plan))
-      ≡ first_of (cond b (at ∷ bad_at (fields + fields_in x) (strips + strips_in x) (after x (entries_from plan (at + size_of x))))
-      (bad_at (fields + fields_in x) (strips + strips_in x) (after x (entries_from plan (at + size_of x)))))
-  unfolding bad_at
-  one = sym w.left ∙ rw (entries_next plan at h, i, e)
-
-  pub bads_stop : b ≡ true → Some at ≡ first_of (bad_at 0 0 (entries_of plan))
-  bads_stop t = rw (one, t)
-
-  module _ (t : b ≡ false) where
-    is_solid : Solid x
-    is_solid = solid x (good_solid fields strips x (sym i ∙ t))
-
-    room : at + size_of x ≤ length plan
-    room = rw (← e) at (record_inside plan at w.inside)
-
-    pub bads_on : {n : ℕ} → n ≡ size_of x → (at < at + n) × (at + n ≤ length plan)
-    bads_on is-n = (omega (arith, is_solid.size), omega (arith, room))
-
-    pub bads_fields : {f : ℕ} → f ≡ fields_in x → fields + f ≤ length plan
-    bads_fields is_f = omega (arith, room, is_solid.both, w.few)
-
-    pub bads_strips : {s : ℕ} → s ≡ strips_in x → strips + s ≤ length plan
-    bads_strips is-s = omega (arith, room, is_solid.both, w.few)
-
-    pub bads_turn : {n f s : ℕ} → n ≡ size_of x → f ≡ fields_in x → s ≡ strips_in x → Bads plan (at + n) (fields + f) (strips + s)
-    bads_turn is-n is_f is-s = record {
-      inside = (bads_on is-n).1;
-      few = omega (arith, is_solid.both, w.few);
-      left = rw (is-n, is_f, is-s) (sym (one ∙ rw (t, is_solid.goes_on (entries_from plan (at + size_of x)))));
-    }
-
--- the loop of `first_outside`
-pub record Outs (plan : List ℕ) (radials bins at : ℕ) : Type 0 where
-  pub left : first_of (outside_at radials bins (entries_from plan at)) ≡ first_of (outside_at radials bins (entries_of plan))
-
-pub outs_first : (plan : List ℕ) (radials bins : ℕ) → Outs plan radials bins 0
-outs_first plan radials bins = record { left = refl }
-
-pub outs_end : {plan : List ℕ} {radials bins at : ℕ} → Outs plan radials bins at → length plan ≤ at
-    → None ≡ first_of (outside_at radials bins (entries_of plan))
+-- the first strip outside is the first that is found to leave
+pub outside_found : (radials bins : ℕ) (es : List Entry)
+    → option_map (λ (e : Entry). e.at) (find (λ e. leaves radials bins e.item) es) ≡ first_of (outside_at radials bins es)
 unfolding outside_at
-outs_end {plan} {radials} {bins} {at} w h = rw (entries_end plan at h) at w.left
+outside_found radials bins [] = refl
+outside_found radials bins (e ∷ es) = by (leaves radials bins e.item) _ _ (outside_found radials bins es)
+  where
+    by : (b : Bool) (r : Option Entry) (os : List ℕ) → option_map (λ (y : Entry). y.at) r ≡ first_of os
+        → option_map (λ (y : Entry). y.at) (cond b (Some e) r) ≡ first_of (cond b (e.at ∷ os) os)
+    by true r os q = refl
+    by false r os q = q
 
-module _ {plan : List ℕ} {radials bins at : ℕ} (w : Outs plan radials bins at) (h : at < length plan) {x : Record} (e : x ≡ record_at plan at) {b : Bool}
-    (i : b ≡ leaves radials bins x) where
-  pub outs_stop : b ≡ true → Some at ≡ first_of (outside_at radials bins (entries_of plan))
-  unfolding outside_at
-  outs_stop t = rw (here plan h e {n = size_of x} refl, sym i ∙ t) at w.left
+-- the fields are those that are counted
+abbrev pub is_field : Record → Bool
+is_field (Field n) = true
+is_field (Strip r g c w) = false
+is_field Malformed = false
 
-  pub outs_last : b ≡ false → {n : ℕ} → n ≡ size_of x → n ≡ 0 → None ≡ first_of (outside_at radials bins (entries_of plan))
-  unfolding outside_at
-  outs_last t is-n z = rw (here plan h e is-n, sym i ∙ t, here_malformed plan h e is-n z) at w.left
-
-  pub outs_turn : b ≡ false → {n : ℕ} → n ≡ size_of x → (n ≡ 0 → ⊥) → Outs plan radials bins (at + n)
-  unfolding outside_at
-  outs_turn t is-n ne = record { left = rw (here_on plan h e is-n ne, sym i ∙ t) at w.left }
-
--- the loop of `count_fields`
-pub record Counting (plan : List ℕ) (at n : ℕ) : Type 0 where
-  pub few : n ≤ at
-  pub left : n + field_count (entries_from plan at) ≡ field_count (entries_of plan)
-
-pub counting_first : (plan : List ℕ) → Counting plan 0 0
-counting_first plan = record { few = omega arith; left = zero-add _ }
-
-pub counting_end : {plan : List ℕ} {at n : ℕ} → Counting plan at n → length plan ≤ at → n ≡ field_count (entries_of plan)
+pub fields_found : (es : List Entry) → length (filter (λ e. is_field e.item) es) ≡ field_count es
 unfolding field_count
-counting_end {plan} {at} {n} w h = rw (entries_end plan at h, add-zero) at w.left
-
-module _ {plan : List ℕ} {at k : ℕ} (w : Counting plan at k) (h : at < length plan) {x : Record} (e : x ≡ record_at plan at) {n : ℕ} (is-n : n ≡ size_of x) where
-  pub counting_last : n ≡ 0 → k ≡ field_count (entries_of plan)
-  unfolding field_count
-  counting_last z = rw (here plan h e is-n, here_malformed plan h e is-n z, add-zero) at w.left
-
-  pub counting_fits : {f : ℕ} → (n ≡ 0 → ⊥) → f ≡ fields_in x → k + f ≤ at + n
-  counting_fits ne is_f = omega (arith, w.few, (here_solid plan h e is-n ne).both)
-
-  pub counting_turn : {f : ℕ} → (n ≡ 0 → ⊥) → f ≡ fields_in x → Counting plan (at + n) (k + f)
-  unfolding field_count
-  counting_turn ne is_f = record { few = counting_fits ne is_f; left = rw (is_f, add_assoc) (rw (here_on plan h e is-n ne) at w.left) }
+fields_found [] = refl
+fields_found (e ∷ es) = by e.item _ _ (fields_found es)
+  where
+    by : (x : Record) (rs : List Entry) (n : ℕ) → length rs ≡ n → length (cond (is_field x) (e ∷ rs) rs) ≡ fields_in x + n
+    by (Field m) rs n q = omega (arith, q)
+    by (Strip r g c w) rs n q = omega (arith, q)
+    by Malformed rs n q = omega (arith, q)

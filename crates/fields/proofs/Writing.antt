@@ -1,22 +1,22 @@
--- The loop of `write_totals`, and what an accepted plan has. Assumes nothing.
+-- What an accepted plan has, and the loop of `write_totals`. Assumes nothing.
 use mathlib.Core.Path.{◌≡◌, refl, sym, ap, ◌∙◌}
 use mathlib.Core.Bool.{false, ◌&&◌}
 use mathlib.Core.List.{List, [], ◌∷◌, ◌++◌, append-nil}
-use Prim.Native.Nat.{ℕ, suc, ◌+◌, ◌≤◌, ◌<◌}
-use native.Mathlib.Nat.{add-zero, zero-add}
+use Prim.Native.Nat.{ℕ, suc, ◌+◌, ◌*◌, ◌-◌, ◌≤◌, ◌<◌}
+use native.Mathlib.Nat.{add-zero, zero-add, add_assoc}
 use native.Mathlib.Numerals.{add-one}
 use native.Mathlib.Omega.{arith}
 use lib.Dec.{leb, ltb}
-use lib.ListN.{length, get_or, take, drop, set, length-set, drop_of_length-le}
-use lib.Seq.{drop-cons, take-suc, set_at, append_snoc, length-take-le, take_all}
-use borrow.Author.Tests.{ltb-true, not-false}
+use lib.ListN.{length, get_or, drop, set, length-set, length-append, drop_of_length-le}
+use lib.Seq.{drop-cons, set_at, append_snoc, get_or-append_seam}
+use borrow.Author.Tests.{leb-true, ltb-true, not-false}
 use Rattle.wire.specs.Result.{Result, accepted}
+use Rattle.fields.specs.declared.plan.Entry.{Entry}
 use Rattle.fields.specs.declared.plan.Record.{Record}
 use Rattle.fields.specs.declared.plan.Record.TheVariants.{Field, Strip, Malformed}
-use Rattle.fields.specs.Plan.{record_at, size_of, fields_in, strips_in, Entry, entries_from, entries_of, bad, bad_at, repeated_at, outside_at, leaves, refuse_first, field_count, strip_count, plan_of}
-use Rattle.fields.specs.Totals.{Grid, own_total, totals, items}
-use Rattle.fields.proofs.Walk.{and_both, here, here_on, here_malformed, entries_end}
-use Rattle.fields.proofs.Owning.{none_picked}
+use Rattle.fields.specs.Plan.{fields_in, strips_in, entries_of, bad, bad_at, repeated_at, outside_at, leaves, refuse_first, field_count, strip_count, plan_of}
+use Rattle.fields.specs.Totals.{Grid, most, strip_total, own_total, totals, items}
+use Rattle.fields.proofs.Walk.{and_both, none_picked}
 
 -- an accepted plan passed the three walks
 pub record Passed (plan : List ℕ) (radials bins n : ℕ) : Type 0 where
@@ -68,126 +68,186 @@ unfolding field_count totals
 length_totals p [] = refl
 length_totals p (e ∷ es) = one_total p e.item (items es) (field_count es) (length_totals p es)
 
-is_field : (x : Record) → fields_in x ≡ 1 → (m : ℕ) × (x ≡ Field m)
-is_field (Field m) h = (m, refl)
-is_field (Strip r g c w) h = absurd (omega arith)
-is_field Malformed h = absurd (omega arith)
+-- the totals of a plan once some fields have been met, the last of them with this total so far
+unfoldable pub met : Grid → List ℕ → List Record → List ℕ
+met p [] rs = totals p rs
+met p (t ∷ []) rs = (t + own_total p rs) ∷ totals p rs
+met p (t ∷ u ∷ ts) rs = t ∷ met p (u ∷ ts) rs
 
-record IsStrip (x : Record) : Type 0 where
-  r : ℕ
-  g : ℕ
-  c : ℕ
-  w : ℕ
-  is : x ≡ Strip r g c w
+met_field : (p : Grid) (n : ℕ) (rs : List Record) (ts : List ℕ) → met p ts (Field n ∷ rs) ≡ met p (ts ++ 0 ∷ []) rs
+unfolding met totals own_total
+met_field p n rs [] = rw zero-add refl
+met_field p n rs (t ∷ []) = rw (zero-add, add-zero) refl
+met_field p n rs (t ∷ u ∷ ts) = ap (λ (l : List ℕ). t ∷ l) (met_field p n rs (u ∷ ts))
 
-is_strip_lem : (x : Record) → (fields_in x ≡ 1 → ⊥) → 1 ≤ size_of x → IsStrip x
-is_strip_lem (Field m) h s = absurd (h refl)
-is_strip_lem (Strip r g c w) h s = record { r = r; g = g; c = c; w = w; is = refl }
-is_strip_lem Malformed h s = absurd (omega arith)
+met_strip : (p : Grid) (r g c w : ℕ) (rs : List Record) (t : ℕ) (ts : List ℕ)
+    → met p (ts ++ t ∷ []) (Strip r g c w ∷ rs) ≡ met p (ts ++ (t + strip_total p r g c w) ∷ []) rs
+unfolding met totals own_total
+met_strip p r g c w rs t [] = rw add_assoc refl
+met_strip p r g c w rs t (a ∷ []) = ap (λ (l : List ℕ). a ∷ l) (met_strip p r g c w rs t [])
+met_strip p r g c w rs t (a ∷ b ∷ ts) = ap (λ (l : List ℕ). a ∷ l) (met_strip p r g c w rs t (b ∷ ts))
 
-stored : (d xs : List ℕ) (i v : ℕ) → i < length d → length d ≤ length xs → v ≡ get_or xs i 0
-    → set (take i xs ++ drop i d) i v ≡ take (i + 1) xs ++ drop (i + 1) d
-stored d xs i v h room is =
-    let h' : i < length xs = omega arith in
-    rw (add-one, drop-cons d i 0, take-suc xs i 0, ← is)
-    (set_at (take i xs) _ _ v i (length-take-le i xs (omega arith)) ∙ sym (append_snoc (take i xs) v (drop (suc i) d)))
+met_end : (p : Grid) (ts : List ℕ) → met p ts [] ≡ ts
+unfolding met totals own_total
+met_end p [] = refl
+met_end p (t ∷ []) = rw add-zero refl
+met_end p (t ∷ u ∷ ts) = ap (λ (l : List ℕ). t ∷ l) (met_end p (u ∷ ts))
 
-pub record Writing (p : Grid) (radials : ℕ) (plan d row : List ℕ) (at j : ℕ) : Type 0 where
+-- a list's last number, and those before it
+record Last (ts : List ℕ) : Type 0 where
+  before : List ℕ
+  last : ℕ
+  is : ts ≡ before ++ last ∷ []
+
+last_of : (ts : List ℕ) → 1 ≤ length ts → Last ts
+last_of [] h = absurd (omega arith)
+last_of (t ∷ []) h = record { before = []; last = t; is = refl }
+last_of (t ∷ u ∷ ts) h =
+    let l = last_of (u ∷ ts) (omega arith) in
+    record { before = t ∷ l.before; last = l.last; is = ap (λ (k : List ℕ). t ∷ k) l.is }
+
+snoc_last : (before : List ℕ) (last k : ℕ) → k ≡ length before → get_or (before ++ last ∷ []) k 0 ≡ last
+snoc_last before last k i = rw i (get_or-append_seam before last [] 0)
+
+-- a row whose last total is to grow
+record Held (row before rest : List ℕ) (last k v : ℕ) : Type 0 where
+  here : get_or row k 0 ≡ last
+  inside : k < length row
+  grown : set row k v ≡ (before ++ v ∷ []) ++ rest
+
+held : (row before rest : List ℕ) (last k v : ℕ) → row ≡ before ++ last ∷ rest → k ≡ length before → Held row before rest last k v
+held row before rest last k v e i = record {
+  here = rw (e, i) (get_or-append_seam before last rest 0);
+  inside = rw (e, i, length-append) (omega arith);
+  grown = rw (e, i) (set_at before last rest v (length before) refl ∙ sym (append_snoc before v rest));
+}
+
+-- a field's first total comes behind those before it
+appended : (front d : List ℕ) (j v : ℕ) → length front ≡ j → j < length d → set (front ++ drop j d) j v ≡ (front ++ v ∷ []) ++ drop (j + 1) d
+appended front d j v m h = rw (add-one, drop-cons d j 0 h) (set_at front _ _ v j m ∙ sym (append_snoc front v (drop (suc j) d)))
+
+-- the loop: `es` are left of `all`
+pub record Writing (p : Grid) (radials : ℕ) (all : List Entry) (d row : List ℕ) (es : List Entry) (j : ℕ) : Type 0 where
   pub long : length row ≡ length d
-  pub many : length (totals p (items (entries_of plan))) ≡ length d
-  pub front : row ≡ take j (totals p (items (entries_of plan))) ++ drop j d
-  pub ahead : drop j (totals p (items (entries_of plan))) ≡ totals p (items (entries_from plan at))
-  pub room : j + field_count (entries_from plan at) ≡ length d
-  pub few : strip_count (entries_from plan at) ≤ 4096
-  pub inside : outside_at radials p.bins (entries_from plan at) ≡ []
+  pub front : List ℕ
+  pub many : length front ≡ j
+  pub written : row ≡ front ++ drop j d
+  pub ends : met p front (items es) ≡ totals p (items all)
+  pub room : j + field_count es ≡ length d
+  pub strips : ℕ
+  pub good : bad_at j strips es ≡ []
+  pub inside : outside_at radials p.bins es ≡ []
+  pub small : get_or front (j - 1) 0 ≤ strips * most
 
-pub writing_first : (p : Grid) (radials : ℕ) (plan d : List ℕ) → plan_of plan radials p.bins ≡ accepted (length d) → Writing p radials plan d d 0 0
+pub writing_first : (p : Grid) (radials : ℕ) (plan d : List ℕ) → plan_of plan radials p.bins ≡ accepted (length d) → Writing p radials (entries_of plan) d d (entries_of plan) 0
+unfolding met
 writing_first p radials plan d h =
     let q = passed plan radials p.bins h in
     record {
       long = refl;
-      many = length_totals p (entries_of plan) ∙ q.fields;
-      front = refl;
-      ahead = refl;
+      front = [];
+      many = refl;
+      written = refl;
+      ends = refl;
       room = zero-add _ ∙ q.fields;
-      few = few_strips q;
+      strips = 0;
+      good = q.no_bad;
       inside = q.no_outside;
+      small = omega arith;
     }
 
-module _ {p : Grid} {radials : ℕ} {plan d row : List ℕ} {at j : ℕ} (w : Writing p radials plan d row at j) where
-  all_written : j ≡ length d → row ≡ totals p (items (entries_of plan))
-  all_written e =
-      let m : length (totals p (items (entries_of plan))) ≤ length d = omega (arith, w.many) in
-      w.front ∙ rw (e, drop_of_length-le d {i = length d} (omega arith), append-nil) (take_all (length d) (totals p (items (entries_of plan))) m)
+pub writing_end : {p : Grid} {radials : ℕ} {all : List Entry} {d row : List ℕ} {es : List Entry} {j : ℕ} → Writing p radials all d row es j → es ≡ []
+    → row ≡ totals p (items all)
+unfolding field_count
+writing_end {p} {d = d} {j = j} w h =
+    let e : j ≡ length d = sym (add-zero j) ∙ rw h at w.room in
+    w.written ∙ rw (e, drop_of_length-le d {i = length d} (omega arith), append-nil) (sym (met_end p w.front) ∙ rw h at w.ends)
 
-  pub writing_end : length plan ≤ at → row ≡ totals p (items (entries_of plan))
-  unfolding field_count
-  writing_end h = all_written (rw (entries_end plan at h, add-zero) at w.room)
+module _ {p : Grid} {radials : ℕ} {all : List Entry} {d row : List ℕ} {es rest : List Entry} {j : ℕ} {x : Entry} (w : Writing p radials all d row es j)
+    (h : es ≡ x ∷ rest) where
+  stands : (bad j w.strips x.item ≡ false) × (bad_at (j + fields_in x.item) (w.strips + strips_in x.item) rest ≡ [])
+  unfolding bad_at
+  stands = none_picked (bad j w.strips x.item) x.at _ (rw h at w.good)
 
-  module _ (h : at < length plan) {x : Record} (e : x ≡ record_at plan at) {n : ℕ} (is-n : n ≡ size_of x) where
-    pub writing_last : n ≡ 0 → row ≡ totals p (items (entries_of plan))
+  lies : (leaves radials p.bins x.item ≡ false) × (outside_at radials p.bins rest ≡ [])
+  unfolding outside_at
+  lies = none_picked (leaves radials p.bins x.item) x.at _ (rw h at w.inside)
+
+  pub no_malformed : x.item ≡ Malformed → ⊥
+  no_malformed i = let s = rw i at stands.0 in let z : ◌≡◌ {A = ℕ} 0 1 = cc in omega arith
+
+  module _ {n : ℕ} (i : x.item ≡ Field n) where
+    more : j + 1 + field_count rest ≡ length d
     unfolding field_count
-    writing_last z = all_written (rw (here plan h e is-n, here_malformed plan h e is-n z, add-zero) at w.room)
+    more = let q = rw (h, i) at w.room in omega arith
 
-    module _ (ne : n ≡ 0 → ⊥) where
-      parted : (strip_count (entries_from plan (at + n)) ≤ 4096) × (outside_at radials p.bins (entries_from plan (at + n)) ≡ [])
-      unfolding strip_count outside_at
-      parted =
-          let f = rw (here_on plan h e is-n ne) at w.few in
-          (omega arith, (none_picked (leaves radials p.bins x) at _ (rw (here_on plan h e is-n ne) at w.inside)).1)
+    pub writing_room : j < length row
+    writing_room = omega (arith, more, w.long)
 
-      module _ {f : ℕ} (is_f : f ≡ fields_in x) where
-        module _ (one : f ≡ 1) where
-          m : ℕ
-          m = (is_field x (sym is_f ∙ one)).0
+    pub writing_field : Writing p radials all d (set row j 0) rest (j + 1)
+    writing_field = record {
+      long = length-set row j 0 ∙ w.long;
+      front = w.front ++ 0 ∷ [];
+      many = length-append w.front (0 ∷ []) ∙ ap (λ k. k + 1) w.many;
+      written = ap (λ (l : List ℕ). set l j 0) w.written ∙ appended w.front d j 0 w.many (omega (arith, more));
+      ends = sym (met_field p n (items rest) w.front) ∙ rw (h, i) at w.ends;
+      room = more;
+      strips = w.strips;
+      good = rw (i, add-zero) at stands.1;
+      inside = lies.1;
+      small = rw (snoc_last w.front 0 (j + 1 - 1) (omega (arith, w.many))) (omega arith);
+    }
 
-          is : x ≡ Field m
-          unfolding m
-          is = (is_field x (sym is_f ∙ one)).1
+  module _ {r g c wt : ℕ} (i : x.item ≡ Strip r g c wt) where
+    tests : (1 ≤ j) × (w.strips < 4096)
+    tests =
+        let t = and_both (leb 1 j) (not-false (leb 1 j && (leb 1 c && ltb w.strips 4096)) (rw i at stands.0)) in
+        (leb-true 1 j t.0, ltb-true w.strips 4096 (and_both (leb 1 c) t.1).1)
 
-          rest : drop j (totals p (items (entries_of plan))) ≡ own_total p (items (entries_from plan (at + n))) ∷ totals p (items (entries_from plan (at + n)))
-          unfolding totals
-          rest = rw (here_on plan h e is-n ne, is) at w.ahead
+    pub strip_inside : leaves radials p.bins (Strip r g c wt) ≡ false
+    strip_inside = rw i at lies.0
 
-          more : j + 1 + field_count (entries_from plan (at + n)) ≡ length d
-          unfolding field_count
-          more = let q = rw (here_on plan h e is-n ne, is) at w.room in omega arith
+    -- what stands before the last total, and that total
+    l : Last w.front
+    l = last_of w.front (omega (arith, w.many, tests.0))
 
-          pub writing_room : j < length row
-          writing_room = omega (arith, more, w.long)
+    length_is : length l.before + 1 ≡ j
+    length_is = sym (length-append l.before (l.last ∷ [])) ∙ (ap (λ (k : List ℕ). length k) (sym l.is) ∙ w.many)
 
-          both : (get_or (totals p (items (entries_of plan))) j 0 ≡ own_total p (items (entries_from plan (at + n))))
-              × (drop (suc j) (totals p (items (entries_of plan))) ≡ totals p (items (entries_from plan (at + n))))
-          both =
-              let l : j < length (totals p (items (entries_of plan))) = omega (arith, more, w.many) in
-              let q = sym (drop-cons (totals p (items (entries_of plan))) j 0 l) ∙ rest in
-              (cc, cc)
+    row_is : row ≡ l.before ++ l.last ∷ drop j d
+    row_is = w.written ∙ (ap (λ (k : List ℕ). k ++ drop j d) l.is ∙ append_snoc l.before l.last (drop j d))
 
-          pub writing_field : {v : ℕ} → v ≡ own_total p (items (entries_from plan (at + n))) → Writing p radials plan d (set row j v) (at + n) (j + 1)
-          writing_field {v} is-v = record {
-            long = length-set row j v ∙ w.long;
-            many = w.many;
-            front = ap (λ (l : List ℕ). set l j v) w.front
-                ∙ stored d (totals p (items (entries_of plan))) j v (omega (arith, more)) (omega (arith, w.many)) (is-v ∙ sym both.0);
-            ahead = rw add-one both.1;
-            room = more;
-            few = parted.0;
-            inside = parted.1;
+    place_is : j - 1 ≡ length l.before
+    place_is = omega (arith, length_is)
+
+    has : (v : ℕ) → Held row l.before (drop j d) l.last (j - 1) v
+    has v = held row l.before (drop j d) l.last (j - 1) v row_is place_is
+
+    pub strip_has : (1 ≤ j) × (j - 1 < length row)
+    strip_has = (tests.0, (has 0).inside)
+
+    last_small : l.last ≤ w.strips * most
+    last_small =
+        let q : get_or w.front (j - 1) 0 ≡ l.last = ap (λ (k : List ℕ). get_or k (j - 1) 0) l.is ∙ snoc_last l.before l.last (j - 1) place_is in
+        omega (arith, q, w.small)
+
+    module _ {t : ℕ} (is-t : t ≡ strip_total p r g c wt) (le-t : t ≤ most) where
+      pub strip_fits : get_or row (j - 1) 0 + t ≤ 4096 * most
+      strip_fits = omega (arith, (has 0).here, last_small, tests.1, le-t)
+
+      pub writing_strip : Writing p radials all d (set row (j - 1) (get_or row (j - 1) 0 + t)) rest j
+      unfolding field_count
+      writing_strip =
+          let v : ℕ = l.last + t in
+          rw (has 0).here record {
+            long = length-set row (j - 1) v ∙ w.long;
+            front = l.before ++ v ∷ [];
+            many = length-append l.before (v ∷ []) ∙ length_is;
+            written = (has v).grown;
+            ends = rw is-t (sym (met_strip p r g c wt (items rest) l.last l.before) ∙ rw (h, i, l.is) at w.ends);
+            room = rw (h, i, zero-add) at w.room;
+            strips = w.strips + 1;
+            good = rw (i, add-zero) at stands.1;
+            inside = lies.1;
+            small = rw (snoc_last l.before v (j - 1) place_is) (omega (arith, last_small, le-t));
           }
-
-          pub writing_asks : (strip_count (entries_from plan (at + n)) ≤ 4096) × (outside_at radials p.bins (entries_from plan (at + n)) ≡ [])
-          writing_asks = parted
-
-        pub writing_strip : (f ≡ 1 → ⊥) → Writing p radials plan d row (at + n) j
-        unfolding totals field_count
-        writing_strip no-f =
-            let s = is_strip_lem x (λ q. no-f (is_f ∙ q)) (omega (arith, is-n)) in
-            record {
-              long = w.long;
-              many = w.many;
-              front = w.front;
-              ahead = rw (here_on plan h e is-n ne, s.is) at w.ahead;
-              room = let q = rw (here_on plan h e is-n ne, s.is) at w.room in omega arith;
-              few = parted.0;
-              inside = parted.1;
-            }

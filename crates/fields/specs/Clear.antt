@@ -9,9 +9,10 @@ use Rattle.scale.specs.declared.physical.Scheme.{Scheme}
 use Rattle.symbology.specs.declared.figures.Packet.{Packet}
 use Rattle.sweep.specs.Sweep.{Accepted}
 use Rattle.sweep.specs.Clear.{clear_sweep}
+use Rattle.fields.specs.declared.plan.Entry.{Entry}
 use Rattle.fields.specs.declared.plan.Record.{Record}
 use Rattle.fields.specs.declared.plan.Record.TheVariants.{Field, Strip, Malformed}
-use Rattle.fields.specs.Plan.{Entry, entries_of, bad_at, repeated_at, refuse_first, field_count}
+use Rattle.fields.specs.Plan.{entries_of, bad_at, repeated_at, refuse_first, field_count}
 use Rattle.fields.specs.Fields.{rain_of, Totalled}
 
 abbrev pub is_strip : Record → Bool

@@ -1,17 +1,17 @@
 -- How 38 is decided: a mark for each number that a field may have.
-use Rattle.std.specs.Prelude.{Bool, false, List, ℕ, ◌<◌, eqb, get_or, set}
+use Rattle.std.specs.Prelude.{Bool, true, false, List, ◌<◌, get_or, set}
 use Rattle.fields.specs.declared.plan.Record.{Record}
 use Rattle.fields.specs.declared.plan.Record.TheVariants.{Field, Strip, Malformed}
 
 -- a record names a number that is marked
-abbrev pub again : List ℕ → Record → Bool
-again marks (Field n) = eqb (get_or marks n 0) 1
+abbrev pub again : List Bool → Record → Bool
+again marks (Field n) = get_or marks n false
 again marks (Strip r g c w) = false
 again marks Malformed = false
 
 -- the marks once a record is read
-abbrev pub marked : List ℕ → Record → List ℕ
-marked marks (Field n) = set marks n 1
+abbrev pub marked : List Bool → Record → List Bool
+marked marks (Field n) = set marks n true
 marked marks (Strip r g c w) = marks
 marked marks Malformed = marks
 

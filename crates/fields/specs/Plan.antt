@@ -4,6 +4,7 @@ use Rattle.wire.specs.Result.{Result, accepted, refused}
 use Rattle.wire.specs.Bytes.{u16_at}
 use Rattle.wire.specs.Text.{member}
 use Rattle.wire.specs.Refusal.{kind, nat}
+use Rattle.fields.specs.declared.plan.Entry.{Entry}
 use Rattle.fields.specs.declared.plan.Record.{Record}
 use Rattle.fields.specs.declared.plan.Record.TheVariants.{Field, Strip, Malformed}
 
@@ -29,11 +30,6 @@ abbrev pub strips_in : Record → ℕ
 strips_in (Field n) = 0
 strips_in (Strip r g c w) = 1
 strips_in Malformed = 0
-
--- a record of a plan, and its offset
-pub record Entry : Type 0 where
-  pub at : ℕ
-  pub item : Record
 
 -- nothing is read after a malformed record
 abbrev pub after : Record → List Entry → List Entry

@@ -3,7 +3,7 @@ use Rattle.std.specs.Prelude.{Bool, cond, ◌&&◌, List, [], ◌∷◌, map, �
 use Rattle.scale.specs.Scaling.{valid}
 use Rattle.fields.specs.declared.plan.Record.{Record}
 use Rattle.fields.specs.declared.plan.Record.TheVariants.{Field, Strip, Malformed}
-use Rattle.fields.specs.Plan.{Entry}
+use Rattle.fields.specs.declared.plan.Entry.{Entry}
 
 -- what totals see of a sweep: its codes, row after row, the gates of a row, and the floor and the ceiling of the valid codes
 pub record Grid : Type 0 where

@@ -1,11 +1,13 @@
 // The sweep reading with the totals of a field plan. Order: the refusals of the sweep (10 for any scheme but precipitation), 37, 38, 39, 36 for
 // the totals buffer.
+// The parameters are those of the C entries, one by one.
 ghost use Rattle.std.specs.Prelude.{◌≡◌, []};
 ghost use Rattle.wire.specs.Refusal.{kind};
 ghost use Rattle.wire.specs.Result.{accepted, answer, refused, then};
 ghost use Rattle.symbology.specs.Answers.{picture_of};
 ghost use Rattle.fields.specs.Fields.{totals_of, checked_in, checked_on, totals_buffers, TotalsRan};
 
+use crate::totals::Grid;
 use scale::physical::{Scaling, Scheme};
 use scale::scaling::PrecipScale;
 use sweep::sweep::Sweep;
@@ -115,15 +117,14 @@ pub fn read_sweep_with_totals(
     sweep::sweep::read_sweep(file, clock, scheme, body, azimuths, codes, physical)?;
     let figures = done.sweep.figures;
     let cells = figures.n_radials * figures.n_bins;
-    crate::totals::write_totals(
-        plan,
-        &codes[..cells],
-        figures.n_radials,
-        figures.n_bins,
-        done.scale.floor as u16,
-        done.scale.ceiling,
-        &mut totals[..done.fields],
-    );
+    let grid = Grid {
+        codes: &codes[..cells],
+        radials: figures.n_radials,
+        bins: figures.n_bins,
+        floor: u16::from(done.scale.floor),
+        ceiling: done.scale.ceiling,
+    };
+    grid.write_totals(plan, &mut totals[..done.fields]);
     Ok(SweepTotals {
         sweep: done.sweep,
         fields: done.fields,

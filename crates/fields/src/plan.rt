@@ -1,13 +1,15 @@
 // A field plan: its records, and the refusals 37, 38 and 39.
 ghost use Rattle.std.specs.Prelude.{◌≡◌, [], ◌≤◌, length};
+ghost use Rattle.std.specs.Iterator.{YieldsFirst, item_count};
 ghost use Rattle.wire.specs.Result.{answer};
 ghost use Rattle.fields.specs.Marks.{again, marked, Halfword};
-ghost use Rattle.fields.specs.Plan.{record_at, size_of, fields_in, strips_in, entries_of, bad, bad_at, leaves, outside_at, repeated_at};
+ghost use Rattle.fields.specs.Plan.{record_at, entries_from, entries_of, bad, bad_at, leaves, outside_at, repeated_at};
 ghost use Rattle.fields.specs.Plan.{first_of, field_count, plan_of};
 
+use wire::bytes::{byte_at, u16_at};
 use wire::error::Level3DecodeError;
 
-// A record of a plan: a field's number, or a strip of the field named last.
+// A record of a plan: a field's number, or a strip of the field named last. A malformed one is a record too: it has a place, which 37 tells.
 #[derive(Clone, Copy)]
 pub enum Record {
     Field {
@@ -22,39 +24,68 @@ pub enum Record {
     Malformed,
 }
 
+// A record of a plan, and where it begins.
+#[derive(Clone, Copy)]
+pub struct Entry {
+    pub at: usize,
+    pub item: Record,
+}
+
 // The record at an offset.
-pub(crate) fn record_at(plan: &[u8], at: usize) -> Record
+#[tactic(auto, unfolding(crate::specs::Plan::record_at))]
+fn record_at(plan: &[u8], at: usize) -> Record
     requires { at ≤ length plan.now }
     ensures { result ≡ record_at plan.now at }
 {
     let left = plan.len() - at;
-    if left < 5 {
-        return Record::Malformed;
+    match (byte_at(plan, at), u16_at(plan, at + 1)) {
+        (1, 2) if 5 <= left => Record::Field {
+            number: u16_at(plan, at + 3),
+        },
+        (2, 8) if 11 <= left => Record::Strip {
+            radial: u16_at(plan, at + 3),
+            gate: u16_at(plan, at + 5),
+            count: u16_at(plan, at + 7),
+            weight: u16_at(plan, at + 9),
+        },
+        _ => Record::Malformed,
     }
-    let tag = wire::bytes::byte_at(plan, at);
-    let len = wire::bytes::u16_at(plan, at + 1);
-    if tag == 1 {
-        if len == 2 {
-            return Record::Field {
-                number: wire::bytes::u16_at(plan, at + 3),
-            };
+}
+
+// The records of a plan from an offset on, the last of them the first that is malformed.
+#[derive(Drop)]
+pub(crate) struct Records<'a> {
+    plan: &'a [u8],
+    at: usize,
+}
+
+impl<'a> Iterator for Records<'a> {
+    type Item = Entry;
+
+    ghost next_gives = { YieldsFirst (λ s. entries_from s.plan.now s.at) };
+
+    ghost remaining = { item_count (λ s. entries_from s.plan.now s.at) };
+
+    #[tactic(auto, using(crate::proofs::Walk::entries_end, crate::proofs::Walk::field_left, crate::proofs::Walk::strip_left, crate::proofs::Walk::last_left))]
+    fn next(&mut self) -> Option<Entry> {
+        if self.plan.len() <= self.at {
+            return None;
         }
-        return Record::Malformed;
+        let at = self.at;
+        let item = record_at(self.plan, at);
+        self.at = match item {
+            Record::Field { .. } => at + 5,
+            Record::Strip { .. } => at + 11,
+            Record::Malformed => self.plan.len(),
+        };
+        Some(Entry { at, item })
     }
-    if left < 11 {
-        return Record::Malformed;
-    }
-    if tag == 2 {
-        if len == 8 {
-            return Record::Strip {
-                radial: wire::bytes::u16_at(plan, at + 3),
-                gate: wire::bytes::u16_at(plan, at + 5),
-                count: wire::bytes::u16_at(plan, at + 7),
-                weight: wire::bytes::u16_at(plan, at + 9),
-            };
-        }
-    }
-    Record::Malformed
+}
+
+pub(crate) fn records_of(plan: &[u8]) -> Records<'_>
+    ensures { entries_from result.plan.now result.at ≡ entries_of plan.now }
+{
+    Records { plan, at: 0 }
 }
 
 // How many strips a plan may have.
@@ -71,49 +102,22 @@ fn is_bad(r: Record, fields: usize, strips: usize) -> bool
     }
 }
 
-pub(crate) fn size_of(r: Record) -> usize
-    ensures { result ≡ size_of r }
-{
-    match r {
-        Record::Field { .. } => 5,
-        Record::Strip { .. } => 11,
-        Record::Malformed => 0,
-    }
-}
-
-pub(crate) fn fields_in(r: Record) -> usize
-    ensures { result ≡ fields_in r }
-{
-    match r {
-        Record::Field { .. } => 1,
-        Record::Strip { .. } | Record::Malformed => 0,
-    }
-}
-
-fn strips_in(r: Record) -> usize
-    ensures { result ≡ strips_in r }
-{
-    match r {
-        Record::Strip { .. } => 1,
-        Record::Field { .. } | Record::Malformed => 0,
-    }
-}
-
 // The first record of the plan that 37 refuses.
+#[tactic(auto, using(crate::proofs::Walk::entries_few), unfolding(crate::specs::Plan::bad_at))]
 fn first_bad(plan: &[u8]) -> Option<usize>
     ensures { result ≡ first_of (bad_at 0 0 (entries_of plan.now)) }
 {
-    let mut at: usize = 0;
     let mut fields: usize = 0;
     let mut strips: usize = 0;
-    while at < plan.len() {
-        let r = record_at(plan, at);
-        if is_bad(r, fields, strips) {
-            return Some(at);
+    for e in records_of(plan) {
+        if is_bad(e.item, fields, strips) {
+            return Some(e.at);
         }
-        at += size_of(r);
-        fields += fields_in(r);
-        strips += strips_in(r);
+        match e.item {
+            Record::Field { .. } => fields += 1,
+            Record::Strip { .. } => strips += 1,
+            Record::Malformed => {}
+        }
     }
     None
 }
@@ -123,14 +127,13 @@ fn leaves_grid(r: Record, radials: usize, bins: usize) -> bool
     ensures { result ≡ leaves radials bins r }
 {
     match r {
-        Record::Field { .. } => false,
         Record::Strip {
             radial,
             gate,
             count,
             ..
-        } => radials <= radial as usize || bins < gate as usize + count as usize,
-        Record::Malformed => false,
+        } => radials <= usize::from(radial) || bins < usize::from(gate) + usize::from(count),
+        Record::Field { .. } | Record::Malformed => false,
     }
 }
 
@@ -138,78 +141,50 @@ fn leaves_grid(r: Record, radials: usize, bins: usize) -> bool
 fn first_outside(plan: &[u8], radials: usize, bins: usize) -> Option<usize>
     ensures { result ≡ first_of (outside_at radials bins (entries_of plan.now)) }
 {
-    let mut at: usize = 0;
-    while at < plan.len() {
-        let r = record_at(plan, at);
-        if leaves_grid(r, radials, bins) {
-            return Some(at);
-        }
-        let size = size_of(r);
-        if size == 0 {
-            return None;
-        }
-        at += size;
-    }
-    None
+    records_of(plan)
+        .find(|e| leaves_grid(e.item, radials, bins))
+        .map(|e| e.at)
 }
 
 // How many fields the plan has.
+#[tactic(auto, using(crate::proofs::Walk::entries_few))]
 fn count_fields(plan: &[u8]) -> usize
     ensures { result ≡ field_count (entries_of plan.now) }
 {
-    let mut at: usize = 0;
-    let mut n: usize = 0;
-    while at < plan.len() {
-        let r = record_at(plan, at);
-        let size = size_of(r);
-        if size == 0 {
-            return n;
-        }
-        at += size;
-        n += fields_in(r);
-    }
-    n
+    records_of(plan)
+        .filter(|e| matches!(e.item, Record::Field { .. }))
+        .count()
 }
 
 // Whether the record names a number that is marked; the number is marked.
-fn mark(r: Record, marks: &mut [u8; 65536]) -> bool
+fn mark(r: Record, marks: &mut [bool; 65536]) -> bool
     ensures again { result ≡ again marks.old r }
     ensures marks { marks.new ≡ marked marks.old r }
     ensures halfword { Halfword r }
 {
     match r {
-        Record::Field { number } => {
-            let n = number as usize;
-            let found = marks[n] == 1;
-            marks[n] = 1;
-            found
-        }
-        Record::Strip { .. } => false,
-        Record::Malformed => false,
+        Record::Field { number } => std::mem::replace(&mut marks[usize::from(number)], true),
+        Record::Strip { .. } | Record::Malformed => false,
     }
 }
 
 // The first record of the plan that names a number named before.
+#[tactic(auto, using(crate::proofs::Marking::marking_stop, crate::proofs::Marking::marking_turn), unfolding(crate::specs::Plan::repeated_at))]
 fn first_repeat(plan: &[u8]) -> Option<usize>
     ensures { result ≡ first_of (repeated_at [] (entries_of plan.now)) }
 {
-    let mut marks = [0u8; 65536];
-    let mut at: usize = 0;
-    while at < plan.len() {
-        let r = record_at(plan, at);
-        if mark(r, &mut marks) {
-            return Some(at);
+    // A mark for each number that a field may have: the library has no heap.
+    let mut marks = [false; 65536];
+    for e in records_of(plan) {
+        if mark(e.item, &mut marks) {
+            return Some(e.at);
         }
-        let size = size_of(r);
-        if size == 0 {
-            return None;
-        }
-        at += size;
     }
     None
 }
 
 // 37 over the whole plan, then 38 over the whole plan, then 39; or how many fields it has.
+#[tactic(auto, unfolding(crate::specs::Plan::plan_of))]
 pub fn check_plan(plan: &[u8], radials: usize, bins: usize) -> Result<usize, Level3DecodeError>
     ensures { answer result ≡ plan_of plan.now radials bins }
 {

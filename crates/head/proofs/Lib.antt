@@ -5,3 +5,4 @@ pub mod Fields
 pub mod Coherence
 pub mod Bounds
 pub mod Examples
+pub mod Constants

@@ -47,7 +47,8 @@ fn piece_length(s: &[u8]) -> usize
         .unwrap_or(s.len())
 }
 
-// The first token of a text that is cut into pieces.
+// The first token of a text that is cut into pieces. By hand: pieces end at three bytes, and the
+// library's `split` cuts at one.
 fn token_of(text: &[u8]) -> Result<usize, Level3DecodeError>
     ensures { answer result ≡ first_token 0 (cut text.now) }
 {
@@ -103,7 +104,8 @@ pub fn scan_time(days: u16, seconds: i32, clock: u64) -> Result<u64, Level3Decod
     if LAST_CLOCK < clock {
         return Err(Level3DecodeError::ClockOutOfRange);
     }
-    let when = (days as u64 - 1) * 86400 + seconds as u64;
+    // Not below 0: `try_from` would be a test that cannot fail.
+    let when = (u64::from(days) - 1) * 86400 + seconds as u64;
     if clock + MAX_SCAN_SKEW_SECONDS < when {
         return Err(Level3DecodeError::ScanTimeTooFarAhead {
             seconds: when - clock,

@@ -1,5 +1,5 @@
 // The fields of the product description block: field i stands at the block's start + 2 * (i - 1). The file and the block's start stay two
-// parameters: the entries for C take them so, and a struct of both would be made at each entry to be passed on once.
+// parameters: the entries for C take them so.
 ghost use Rattle.std.specs.Prelude.{◌≡◌};
 ghost use Rattle.wire.specs.Result.{answer};
 ghost use Rattle.head.specs.Pdb.{field_at, hw_i16, hw_u16, hw_i32, hw_pair, thousandths, tenths, metres, pdb_fields};
@@ -74,7 +74,7 @@ pub fn hw_i32(file: &[u8], block: usize, index: usize) -> Result<i32, Level3Deco
 }
 
 // A scale and an offset, one after the other.
-#[tactic(auto, unfolding(crate::specs::Pdb::hw_pair))]
+#[tactic(auto, using(crate::proofs::Fields::field_inside), unfolding(crate::specs::Pdb::hw_pair))]
 pub fn hw_f32_pair(file: &[u8], block: usize, index: usize) -> Result<F32Pair, Level3DecodeError>
     ensures { answer result ≡ hw_pair file.now block index }
 {
@@ -85,22 +85,26 @@ pub fn hw_f32_pair(file: &[u8], block: usize, index: usize) -> Result<F32Pair, L
     })
 }
 
+// Alike but for the unit, here and below; a number for the unit would leave no name to read.
+#[tactic(auto, using(crate::proofs::Constants::thousand))]
 fn of_thousandths(x: i32) -> f64
     ensures { result ≡ thousandths x }
 {
-    x as f64 / 1000.0
+    f64::from(x) / 1000.0
 }
 
+#[tactic(auto, using(crate::proofs::Constants::ten))]
 fn of_tenths(x: i16) -> f64
     ensures { result ≡ tenths x }
 {
-    x as f64 / 10.0
+    f64::from(x) / 10.0
 }
 
+#[tactic(auto, using(crate::proofs::Constants::foot))]
 fn of_feet(x: i16) -> f64
     ensures { result ≡ metres x }
 {
-    x as f64 * 0.3048
+    f64::from(x) * 0.3048
 }
 
 #[tactic(auto, unfolding(crate::specs::Pdb::pdb_fields))]

@@ -5,14 +5,16 @@
 use std::io;
 use std::io::{BufWriter, Write};
 
+#[tactic(auto, using(calendar::proofs::Search::start_first, calendar::proofs::Search::start_next, calendar::proofs::Search::starts_below))]
 fn main(rt: HostRuntime) -> io::Result<()> {
     let mut out = BufWriter::new(rt.alloc(), io::writer(&rt))?;
     let mut first: u64 = 1;
     for k in 0u16..2154 {
         writeln!(out, "{first}")?;
         let year = 1970 + k / 12;
+        // In range by the proof: `try_from` would be a test that cannot fail.
         let month = (1 + k % 12) as u8;
-        first += calendar::month::month_length(year, month) as u64;
+        first += u64::from(calendar::month::month_length(year, month));
     }
     out.flush()
 }

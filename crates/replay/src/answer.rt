@@ -23,8 +23,8 @@ fn fits(word: &[u8], form: Form) -> bool {
     match form {
         Form::Size => crate::words::is_size(word),
         Form::Days => crate::words::is_unsigned(word, u64::from(u16::MAX)),
-        Form::Seconds => crate::words::is_signed(word, i32::MAX as u64),
-        Form::Code => crate::words::is_signed(word, i16::MAX as u64),
+        Form::Seconds => crate::words::is_signed(word, u64::from(i32::MAX.unsigned_abs())),
+        Form::Code => crate::words::is_signed(word, u64::from(i16::MAX.unsigned_abs())),
         Form::Clock => crate::words::is_signed(word, u64::MAX),
         Form::Bytes => crate::hex::is_bytes(word),
         Form::Thresholds => word.len() == 64 && crate::hex::is_bytes(word),
@@ -63,8 +63,8 @@ fn print(out: &mut Vec<u8>, case: Case, kind: Kind) -> io::Result<()> {
         Kind::Date => crate::small::date(out, case),
         Kind::Field => crate::small::field(out, case),
         Kind::Block => crate::small::block(out, case),
-        Kind::Linear => crate::small::linear(out, case),
-        Kind::Float => crate::small::float(out, case),
+        Kind::Linear => crate::small::linear(out, case, capi::scaling::l3_linear),
+        Kind::Float => crate::small::linear(out, case, capi::scaling::l3_float),
         Kind::Precip => crate::small::precip(out, case),
     }
 }

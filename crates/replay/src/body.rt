@@ -59,6 +59,7 @@ pub fn symbology(out: &mut Vec<u8>, case: Case) -> io::Result<()> {
         &mut report.ints,
         &mut report.floats,
     );
+    // The library's number; 0 is acceptance.
     if number == 36 {
         out.write_all(b"? too large")?;
     } else if number != 0 {
@@ -89,11 +90,12 @@ pub fn export16(out: &mut Vec<u8>, case: Case) -> io::Result<()> {
         &mut report.ints,
         &mut report.floats,
     );
+    // The library's number; 0 is acceptance.
     if number != 0 {
         crate::refusal::print(out, number, &report)?;
         check(out, "output", &output, 0)?;
     } else {
-        let n = report.ints[0] as usize;
+        let n = report.size(0);
         match output.get(..n) {
             None => out.write_all(b"?")?,
             Some(written) => {

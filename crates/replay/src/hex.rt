@@ -36,6 +36,7 @@ pub fn is_bytes(word: &[u8]) -> bool
 fn byte_of(high: u8, low: u8) -> u8
     ensures { result ≡ byte_of high low }
 {
+    // In range by the proof: `try_from` would be a test that cannot fail.
     (value(high) * 16 + value(low)) as u8
 }
 
@@ -43,13 +44,11 @@ fn byte_of(high: u8, low: u8) -> u8
 pub fn read(alloc: Global, word: &[u8]) -> Result<Vec<u8>, AllocError>
     ensures { IfOk result (λ v. v.items ≡ bytes_of word.now) }
 {
-    let mut bytes = Vec::new(alloc);
-    let mut rest = word;
-    while let [high, low, others @ ..] = rest {
-        bytes.push(byte_of(*high, *low))?;
-        rest = others;
-    }
-    Ok(bytes)
+    let (pairs, _) = word.as_chunks::<2>();
+    pairs
+        .iter()
+        .map(|[high, low]| byte_of(*high, *low))
+        .collect(alloc)
 }
 
 // Whether a word spells the bits of an f32.

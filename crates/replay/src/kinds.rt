@@ -175,6 +175,7 @@ impl From<FieldKind> for u32 {
     ghost from_gives = { λ kind n. n ≡ number_of_kind (Some kind) };
 
     fn from(kind: FieldKind) -> u32 {
+        // The enum's own number.
         kind as u32
     }
 }
@@ -208,6 +209,7 @@ impl From<Scheme> for u32 {
     ghost from_gives = { λ scheme n. n ≡ number_of_scheme (Some scheme) };
 
     fn from(scheme: Scheme) -> u32 {
+        // The enum's own number.
         scheme as u32
     }
 }
@@ -250,6 +252,7 @@ impl From<Item> for u32 {
     ghost from_gives = { λ item n. n ≡ number_of_item (Some item) };
 
     fn from(item: Item) -> u32 {
+        // The enum's own number.
         item as u32
     }
 }

@@ -24,6 +24,7 @@ fn turn(
 ) -> io::Result<ControlFlow<()>> {
     let held = line.len();
     let room = ROOM.saturating_sub(held);
+    // No `From` makes a `u64` of a `usize`.
     if let Err(e) = input.by_ref().take(room as u64).read_until(b'\n', line) {
         *failed = Some(e);
     }

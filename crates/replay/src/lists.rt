@@ -22,6 +22,7 @@ fn are_entries(word: &[u8], most: u64) -> bool
 }
 
 // Whether a word is a list of numbers up to `most`, of 4,096 at most.
+#[tactic(auto, using(crate::proofs::Pieces::are_entries_is), unfolding(crate::specs::Lists::is_list))]
 pub fn is_list(word: &[u8], most: u64) -> bool
     ensures { result ≡ is_list word.now most }
 {

@@ -11,12 +11,13 @@ use std::io::Write;
 pub fn print_token(
     out: &mut Vec<u8>,
     file: &[u8],
-    at: u64,
+    at: usize,
     from: usize,
     n: usize,
 ) -> io::Result<()> {
-    let start = (at as usize).saturating_add(from);
-    let token = file.get(start..).and_then(|rest| rest.get(..n));
+    let token = file
+        .get(at.saturating_add(from)..)
+        .and_then(|rest| rest.get(..n));
     out.write_all(token.unwrap_or(b"?"))
 }
 
@@ -67,9 +68,9 @@ pub fn token(out: &mut Vec<u8>, case: Case) -> io::Result<()> {
         |r| capi::header::l3_token(&file, &mut r.ints, &mut r.floats),
         |out, r| {
             out.write_all(b"A ")?;
-            print_token(out, &file, r.ints[0], 0, 3)?;
+            print_token(out, &file, r.size(0), 0, 3)?;
             out.write_all(b" ")?;
-            print_token(out, &file, r.ints[0], 3, 3)
+            print_token(out, &file, r.size(0), 3, 3)
         },
     )
 }
@@ -152,22 +153,17 @@ pub fn block(out: &mut Vec<u8>, case: Case) -> io::Result<()> {
     )
 }
 
-pub fn linear(out: &mut Vec<u8>, case: Case) -> io::Result<()> {
+// A linear scale, as an entry of the library reads it from the file.
+pub fn linear<F>(out: &mut Vec<u8>, case: Case, entry: F) -> io::Result<()>
+where
+    F: FnOnce(&[u8], usize, &mut [u64], &mut [f64]) -> u32,
+    requires { F.IsAlwaysCallable entry }
+{
     let file = case.bytes(2)?;
     let block = case.size(3);
     ask(
         out,
-        |r| capi::scaling::l3_linear(&file, block, &mut r.ints, &mut r.floats),
-        print_linear,
-    )
-}
-
-pub fn float(out: &mut Vec<u8>, case: Case) -> io::Result<()> {
-    let file = case.bytes(2)?;
-    let block = case.size(3);
-    ask(
-        out,
-        |r| capi::scaling::l3_float(&file, block, &mut r.ints, &mut r.floats),
+        |r| entry(&file, block, &mut r.ints, &mut r.floats),
         print_linear,
     )
 }

@@ -36,7 +36,7 @@ impl Written {
             Reading::Plain | Reading::Plan => 0,
         };
         let totals = match reading {
-            Reading::Plan => report.ints[14] as usize,
+            Reading::Plan => report.size(14),
             Reading::Plain | Reading::Gaps | Reading::Merge => 0,
         };
         Written {
@@ -98,7 +98,7 @@ fn print_scale(out: &mut Vec<u8>, report: &Report) -> io::Result<()> {
 
 fn print_sweep(out: &mut Vec<u8>, file: &[u8], report: &Report, lent: &Lent) -> io::Result<()> {
     out.write_all(b"A tok=")?;
-    crate::small::print_token(out, file, report.ints[0], 0, 6)?;
+    crate::small::print_token(out, file, report.size(0), 0, 6)?;
     out.write_all(b" ")?;
     crate::small::print_fields(out, report)?;
     write!(out, " time={}", report.ints[5])?;
@@ -212,6 +212,7 @@ pub fn answer(out: &mut Vec<u8>, case: Case, reading: Reading) -> io::Result<()>
     let file = case.bytes(reading.file_word())?;
     let mut report = Report::new();
     let number = ask(case, reading, scheme, &file, &mut lent, &mut report)?;
+    // The library's number; 0 is acceptance.
     if number != 0 {
         crate::refusal::print(out, number, &report)?;
         lent.check(out, Written::default())?;

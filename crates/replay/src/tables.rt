@@ -1,4 +1,4 @@
-// Thresholds, levels and the known codes.
+// Thresholds, levels and the known codes, in arrays as C lends them.
 use crate::case::Case;
 use crate::lent::{Pattern, Report, check};
 use crate::print::{Cell, Row};
@@ -8,7 +8,7 @@ use std::io::Write;
 pub fn threshold(out: &mut Vec<u8>, case: Case) -> io::Result<()> {
     let file = case.bytes(2)?;
     let block = case.size(3);
-    let mut thresholds = [u8::pattern(); 32];
+    let mut thresholds = [u8::PATTERN; 32];
     let mut report = Report::new();
     let number = capi::scaling::l3_threshold(
         &file,
@@ -17,6 +17,7 @@ pub fn threshold(out: &mut Vec<u8>, case: Case) -> io::Result<()> {
         &mut report.ints,
         &mut report.floats,
     );
+    // The library's number; 0 is acceptance.
     if number == 0 {
         write!(out, "A {}", Row(&thresholds))?;
     } else {
@@ -28,8 +29,9 @@ pub fn threshold(out: &mut Vec<u8>, case: Case) -> io::Result<()> {
 
 pub fn legacy(out: &mut Vec<u8>, case: Case) -> io::Result<()> {
     let bytes = case.bytes(2)?;
-    let mut levels = [f32::pattern(); 16];
+    let mut levels = [f32::PATTERN; 16];
     let number = capi::scaling::l3_legacy16(&bytes, case.float(3), &mut levels);
+    // The library's number; 0 is acceptance.
     if number != 0 {
         return write!(out, "R {number}");
     }
@@ -46,8 +48,9 @@ pub fn known(out: &mut Vec<u8>, case: Case) -> io::Result<()> {
 }
 
 pub fn codes(out: &mut Vec<u8>) -> io::Result<()> {
-    let mut table = [u16::pattern(); 26];
+    let mut table = [u16::PATTERN; 26];
     let number = capi::products::l3_codes(&mut table);
+    // The library's number; 0 is acceptance.
     if number != 0 {
         return write!(out, "R {number}");
     }

@@ -1,5 +1,5 @@
 // The words of a line, counted from 0, and the numbers that they spell. Each reader answers on every word; `crate::answer` says which
-// words a line must have.
+// words a line must have. A word is told by its place: the clauses speak of a line as it stands, with any spaces between.
 ghost use Rattle.std.specs.Prelude.{◌≡◌, ◌%◌, ◌<◌, ◌≤◌, length, drop};
 ghost use Rattle.wire.specs.Bytes.{signed as signed_of};
 ghost use Rattle.std.specs.List.{prefix_len};
@@ -41,6 +41,7 @@ fn end_from(line: &[u8], at: usize) -> usize
 }
 
 // Where the first k words have ended.
+#[tactic(auto, using(crate::proofs::Laws::ended_none, crate::proofs::Laws::ended_next))]
 fn after(line: &[u8], k: usize) -> usize
     ensures { (result ≡ ended line.now k) × (result ≤ length line.now) }
 {
@@ -75,7 +76,7 @@ fn digit(b: u8) -> u64
     if is_digit(b) { u64::from(b - b'0') } else { 0 }
 }
 
-// n and one digit more; the greatest number where that is over it.
+// n and one digit more; the greatest number where that is over it. `parse` would give none there.
 fn with_digit(n: u64, b: u8) -> u64
     ensures { result ≡ with_digit n b }
 {
@@ -138,12 +139,14 @@ pub fn clock(word: &[u8]) -> u64
 pub fn size(word: &[u8]) -> usize
     ensures { result ≡ number_of word.now }
 {
+    // A usize holds every u64 here, but no `From` says so.
     number(word) as usize
 }
 
 pub fn unsigned16(word: &[u8]) -> u16
     ensures { result ≡ number_of word.now % 65536 }
 {
+    // In range by the proof: `try_from` would be a test that cannot fail.
     (number(word) % 65536) as u16
 }
 
@@ -160,11 +163,13 @@ fn signed(word: &[u8]) -> u64
 pub fn signed16(word: &[u8]) -> i16
     ensures { result ≡ signed_of 32768 (signed_word word.now % 65536) }
 {
+    // In range by the proof: `try_from` would be a test that cannot fail.
     wire::bytes::as_i16((signed(word) % 65536) as u16)
 }
 
 pub fn signed32(word: &[u8]) -> i32
     ensures { result ≡ signed_of 2147483648 (signed_word word.now % 4294967296) }
 {
+    // In range by the proof: `try_from` would be a test that cannot fail.
     wire::bytes::as_i32((signed(word) % 4294967296) as u32)
 }

@@ -21,6 +21,7 @@ fn print_string(out: &mut Vec<u8>, s: Option<&[u8]>) -> io::Result<()> {
     }
 }
 
+// Not `Commas`: the numbers are read one by one from the payload.
 fn print_array(out: &mut Vec<u8>, s: Option<&[u8]>) -> io::Result<()> {
     let Some(s) = s else {
         return out.write_all(b"?");
@@ -43,8 +44,8 @@ fn print_item(
     report: &Report,
 ) -> io::Result<()> {
     let first = report.ints[0];
-    let start = first as usize;
-    let n = report.ints[1] as usize;
+    let start = report.size(0);
+    let n = report.size(1);
     match item {
         Item::Int => write!(out, "i{}", first.cast_signed()),
         Item::Uint => write!(out, "u{first}"),
@@ -71,7 +72,8 @@ fn read(
         &mut report.floats,
     );
     out.write_all(b" ")?;
-    let end = report.ints[15] as usize;
+    let end = report.size(15);
+    // The library's number; 0 is acceptance.
     if number == 0 {
         print_item(out, item, payload, at, &report)?;
         report.check(out)?;

@@ -1,5 +1,6 @@
 pub mod Valid
 pub mod Finite
+pub mod Constants
 pub mod Whole
 pub mod Gaps
 pub mod Mapped

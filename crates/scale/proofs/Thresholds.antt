@@ -30,6 +30,7 @@ use Rattle.scale.specs.Physical.{has_level, level_of, scale_fields, value_of, ph
 use Rattle.scale.specs.Thresholds.{levels_in_file, levels_of_copy}
 use Rattle.scale.specs.declared.physical.Scheme.TheVariants as Scheme
 use Rattle.scale.specs.declared.physical.Scaling.{Scaling}
+use Rattle.scale.specs.declared.pdb.Thresholds.{Thresholds}
 use Rattle.scale.proofs.Levels.{sixteen_at}
 use Rattle.scale.specs.contracts.pdb.threshold_data as copying
 use Rattle.scale.proofs.pdb.threshold_data.Kinds as copying-kinds
@@ -126,28 +127,40 @@ pub record Decoding : Type 0 where
   pub allowed : decoding-reads.Post lifetimes given answer last
 
 -- Levels by a copy's bytes are those by the place that it was made from, or both are refused.
-agreed : (r : Result ℕ) (file : List ℕ) (post : Float) (a : Std.Result (List ℕ) Level3DecodeError) (l : List Float)
-    → answer_of a ≡ then r (λ k. accepted (thirty_two file k)) → ((bytes : List ℕ) → a ≡ Ok bytes → levels_of bytes 0 post ≡ l)
+agreed : (r : Result ℕ) (file : List ℕ) (post : Float) (a : Std.Result Thresholds Level3DecodeError) (l : List Float)
+    → answer_of a ≡ then r (λ k. accepted (record { at = k; bytes = thirty_two file k })) → ((t : Thresholds) → a ≡ Ok t → levels_of t.bytes 0 post ≡ l)
     → then r (λ _. accepted (levels_of (threshold_bytes file r) 0 post)) ≡ then (answer_of a) (λ _. accepted l)
-agreed (accepted k) file post (Ok bytes) l e h = ap accepted (ap (λ (b : List ℕ). levels_of b 0 post) (sym (one_value e)) ∙ h bytes refl)
+agreed (accepted k) file post (Ok t) l e h = ap accepted (ap (λ (c : Thresholds). levels_of c.bytes 0 post) (sym (one_value e)) ∙ h t refl)
 agreed (accepted k) file post (Err x) l e h = clash _ _ e
-agreed (refused y) file post (Ok bytes) l e h = clash _ _ (sym e)
+agreed (refused y) file post (Ok t) l e h = clash _ _ (sym e)
 agreed (refused y) file post (Err x) l e h = ap refused (one_refusal (sym e))
 
+-- where the place is there, the copy is
+given : {C : Type 0} (file : List ℕ) (k : ℕ) (a : Std.Result Thresholds Level3DecodeError) → answer_of a ≡ accepted (record { at = k; bytes = thirty_two file k })
+    → ((t : Thresholds) → a ≡ Ok t → C) → C
+given file k (Ok t) e h = h t refl
+given file k (Err x) e h = clash _ _ e
+
 -- One copies the thresholds, the other decodes the copy.
-module _ (c : Copying) (d : Decoding) where
-  pub decoded : (bytes : List ℕ) → c.answer ≡ Ok bytes → d.given.0.now ≡ bytes
+module _ (c : Copying) (d : Decoding) (handed : (t : Thresholds) → c.answer ≡ Ok t → d.given.0.now ≡ t.bytes) where
+  decoded_by : (t : Thresholds) → c.answer ≡ Ok t
       → levels_of (threshold_bytes c.given.0.now (threshold_place c.given.0.now c.given.1.0)) 0 d.given.1.0 ≡ d.answer
   unfolding thresholds
-  decoded bytes is handed =
-      through (threshold_place c.given.0.now c.given.1.0) _ bytes (sym c.allowed ∙ ap answer_of is) λ k p e.
-      ap (λ (b : List ℕ). levels_of b 0 d.given.1.0) (ap (threshold_bytes c.given.0.now) p ∙ one_value e ∙ sym handed) ∙ sym d.allowed
+  decoded_by t is =
+      through (threshold_place c.given.0.now c.given.1.0) _ t (sym c.allowed ∙ ap answer_of is) λ k p e.
+      ap (λ (b : List ℕ). levels_of b 0 d.given.1.0)
+      (ap (threshold_bytes c.given.0.now) p ∙ ap (λ (x : Thresholds). x.bytes) (one_value e) ∙ sym (handed t is)) ∙ sym d.allowed
+
+  -- the levels of the copy, where the thresholds are there
+  pub decoded : {k : ℕ} → threshold_place c.given.0.now c.given.1.0 ≡ accepted k
+      → levels_of (threshold_bytes c.given.0.now (threshold_place c.given.0.now c.given.1.0)) 0 d.given.1.0 ≡ d.answer
+  unfolding thresholds
+  decoded {k} there = given c.given.0.now k c.answer (c.allowed ∙ ap (λ r. then r λ k. accepted (record { at = k; bytes = thirty_two c.given.0.now k })) there) decoded_by
 
   -- the levels in the file are those, or both are refused
-  pub calls_agree : ((bytes : List ℕ) → c.answer ≡ Ok bytes → d.given.0.now ≡ bytes)
-      → levels_in_file c.given.0.now c.given.1.0 d.given.1.0 ≡ then (answer_of c.answer) λ _. accepted d.answer
+  pub calls_agree : levels_in_file c.given.0.now c.given.1.0 d.given.1.0 ≡ then (answer_of c.answer) λ _. accepted d.answer
   unfolding levels_of_copy thresholds
-  calls_agree handed =
+  calls_agree =
       same_levels c.given.0.now c.given.1.0 d.given.1.0
       ∙ agreed (threshold_place c.given.0.now c.given.1.0) c.given.0.now d.given.1.0 c.answer d.answer c.allowed
-      (λ bytes is. ap (λ (b : List ℕ). levels_of b 0 d.given.1.0) (sym (handed bytes is)) ∙ sym d.allowed)
+      (λ t is. ap (λ (b : List ℕ). levels_of b 0 d.given.1.0) (sym (handed t is)) ∙ sym d.allowed)

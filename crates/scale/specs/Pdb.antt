@@ -5,6 +5,7 @@ use Rattle.wire.specs.Refusal.{kind, float}
 use Rattle.wire.specs.Result.{Result, accepted, refused, refuse, then}
 use Rattle.head.specs.Pdb.{field_at, hw_i16, hw_u16, hw_pair}
 use Rattle.head.specs.declared.pdb.F32Pair.{F32Pair}
+use Rattle.scale.specs.declared.pdb.Thresholds.{Thresholds}
 use Rattle.scale.specs.declared.scaling.LinearScale.{LinearScale}
 use Rattle.scale.specs.declared.scaling.PrecipScale.{PrecipScale}
 use Rattle.scale.specs.Scaling.{linear_hw, linear_float, usable, floor_of, ceiling_of, scaled}
@@ -45,9 +46,9 @@ threshold_place file block = field_at (length file) block 22 32
 abbrev pub thirty_two : List ℕ → ℕ → List ℕ
 thirty_two file k = take 32 (drop k file)
 
--- a copy of them, or the refusal of their place
-unfoldable pub thresholds : List ℕ → ℕ → Result (List ℕ)
-thresholds file block = then (threshold_place file block) λ k. accepted (thirty_two file k)
+-- their place and a copy of them, or the refusal of their place
+unfoldable pub thresholds : List ℕ → ℕ → Result Thresholds
+thresholds file block = then (threshold_place file block) λ k. accepted (record { at = k; bytes = thirty_two file k })
 
 -- their bytes by the answer for their place; zeros where that is a refusal
 abbrev pub threshold_bytes : List ℕ → Result ℕ → List ℕ

@@ -2,6 +2,7 @@
 ghost use Rattle.std.specs.Prelude.{◌≡◌, ◌+◌, ◌≤◌, length};
 ghost use Rattle.scale.specs.Legacy.{sign_of, scale_of, unscaled_level, unscaled_levels, levels_of};
 
+#[tactic(auto, using(crate::proofs::Constants::one, crate::proofs::Constants::minus_one))]
 fn sign_of(flag: u8) -> f32
     ensures { result ≡ sign_of flag }
 {
@@ -12,6 +13,7 @@ fn sign_of(flag: u8) -> f32
     }
 }
 
+#[tactic(auto, using(crate::proofs::Constants::one, crate::proofs::Constants::ten, crate::proofs::Constants::twenty, crate::proofs::Constants::hundred))]
 fn scale_of(flag: u8) -> f32
     ensures { result ≡ scale_of flag }
 {
@@ -34,11 +36,11 @@ fn unscaled_level(flag: u8, value: u8) -> f32
     if flag / 0x80 % 2 == 1 {
         wire::float::nan32()
     } else {
-        value as f32 * sign_of(flag) * scale_of(flag)
+        f32::from(value) * sign_of(flag) * scale_of(flag)
     }
 }
 
-// The levels of the 32 bytes from place `at` on, not yet multiplied.
+// The levels of the 32 bytes from place `at` on, not yet multiplied. Sixteen by the ICD, and the library has no heap: an array.
 pub(crate) fn unscaled_levels(t: &[u8], at: usize) -> [f32; 16]
     requires { at + 32 ≤ length t.now }
     ensures { result ≡ unscaled_levels t.now at }

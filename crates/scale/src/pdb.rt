@@ -67,11 +67,18 @@ fn copy_32(file: &[u8], k: usize) -> [u8; 32]
     bytes
 }
 
-// A copy of the thresholds.
-#[tactic(auto, unfolding(crate::specs::Pdb::thresholds, crate::specs::Pdb::threshold_place))]
-pub fn threshold_data(file: &[u8], block: usize) -> Result<[u8; 32], Level3DecodeError>
+// The thresholds: their place in the file, and a copy of them, 32 bytes by the ICD.
+#[derive(Clone, Copy)]
+pub struct Thresholds {
+    pub at: usize,
+    pub bytes: [u8; 32],
+}
+
+#[tactic(auto, using(head::proofs::Fields::field_inside), unfolding(crate::specs::Pdb::thresholds, crate::specs::Pdb::threshold_place))]
+pub fn threshold_data(file: &[u8], block: usize) -> Result<Thresholds, Level3DecodeError>
     ensures { answer result ≡ thresholds file.now block }
 {
     let at = head::pdb::field_at(file.len(), block, 22, 32)?;
-    Ok(copy_32(file, at))
+    let bytes = copy_32(file, at);
+    Ok(Thresholds { at, bytes })
 }

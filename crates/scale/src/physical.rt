@@ -74,7 +74,7 @@ pub fn declared_scale(v: Scaling) -> Result<Option<DeclaredLinearScale>, Level3D
 fn whole(n: u16) -> f32
     ensures { result ≡ whole32 (pos n) }
 {
-    f32::from_bits(0x4b00_0000 + n as u32) - 8388608.0
+    f32::from_bits(0x4b00_0000 + u32::from(n)) - 8388608.0
 }
 
 // Linear from the floor on.
@@ -115,7 +115,7 @@ fn level_of(levels: &[f32; 16], code: u16) -> f32
     ensures { result ≡ level_of levels.now code }
 {
     if code < 16 {
-        levels[code as usize]
+        levels[usize::from(code)]
     } else {
         wire::float::nan32()
     }
@@ -125,10 +125,11 @@ fn level_of(levels: &[f32; 16], code: u16) -> f32
 fn known_level(levels: &[f32; 16], code: u16) -> f32
     ensures { code < 16 → result ≡ level_of levels.now code }
 {
-    levels[(code % 16) as usize]
+    levels[usize::from(code % 16)]
 }
 
-// Writes the value of each code to its place.
+// Writes the value of each code to its place. The clause on the room stands in each function that fills: in a struct that held both
+// slices each clause would have to say that they are still those two.
 fn fill_with<F: Fn(u16) -> f32>(value: F, codes: &[u16], physical: &mut [f32])
     requires room { length codes.now ≤ length physical.old }
     requires callable { F.IsAlwaysCallable value }
@@ -200,7 +201,7 @@ fn fill(v: Scaling, file: &[u8], codes: &[u16], physical: &mut [f32])
             fill_linear(
                 p.value_min,
                 p.value_increment,
-                p.floor as u16,
+                u16::from(p.floor),
                 p.ceiling,
                 codes,
                 physical,

@@ -34,6 +34,7 @@ pub struct DeclaredLinearScale {
 }
 
 // Whether x is neither a NaN nor an infinity.
+#[tactic(auto, using(crate::proofs::Finite::finite_is))]
 pub fn is_finite(x: f32) -> bool
     ensures { result ≡ finite x }
 {
@@ -52,12 +53,13 @@ pub fn linear_hw(min: i16, increment: i16, levels: u16) -> LinearScale
     ensures { result ≡ linear_hw min increment levels }
 {
     LinearScale {
-        value_min: min as f32 / 10.0,
-        value_increment: increment as f32 / 10.0,
+        value_min: f32::from(min) / 10.0,
+        value_increment: f32::from(increment) / 10.0,
         n_levels: levels,
     }
 }
 
+#[tactic(auto, using(crate::proofs::Constants::one, crate::proofs::Constants::two))]
 pub fn linear_float(scale: f32, offset: f32) -> LinearScale
     ensures { result ≡ linear_float scale offset }
 {
@@ -68,7 +70,7 @@ pub fn linear_float(scale: f32, offset: f32) -> LinearScale
     }
 }
 
-// Whether the flags and the largest value make sense.
+// Whether the flags and the largest value make sense. The three are fields of the file, read one by one.
 fn is_plausible(largest: u16, leading: u16, trailing: u16) -> bool
     ensures { result ≡ plausible largest leading trailing }
 {
@@ -79,6 +81,7 @@ pub fn floor_of(largest: u16, leading: u16, trailing: u16) -> u8
     ensures { result ≡ floor_of largest leading trailing }
 {
     if is_plausible(largest, leading, trailing) {
+        // In range by the proof: `try_from` would be a test that cannot fail.
         leading as u8
     } else {
         1
@@ -106,7 +109,7 @@ pub fn scaled_by(
 {
     let step = factor / scale;
     PrecipScale {
-        value_min: floor as f32 * step + -offset * factor / scale,
+        value_min: f32::from(floor) * step + -offset * factor / scale,
         value_increment: step,
         floor,
         ceiling,
@@ -114,16 +117,18 @@ pub fn scaled_by(
 }
 
 // How many levels the precipitation family declares: the valid codes.
+#[tactic(auto, using(crate::proofs::Valid::levels_open, crate::proofs::Valid::levels_capped))]
 pub fn level_count(floor: u8, ceiling: Option<u16>) -> u32
     ensures { result ≡ level_count floor ceiling }
 {
     match ceiling {
-        Some(top) => (top as u32 + 1).saturating_sub(floor as u32),
-        None => 65536 - floor as u32,
+        Some(top) => (u32::from(top) + 1).saturating_sub(u32::from(floor)),
+        None => 65536 - u32::from(floor),
     }
 }
 
 // Halfword and float: a step at or below 0 is refused; a NaN is not.
+#[tactic(auto, using(crate::proofs::Constants::nought))]
 pub fn linear_declared_scale(s: LinearScale) -> Result<DeclaredLinearScale, Level3DecodeError>
     ensures { answer result ≡ linear_declared s }
 {
@@ -134,7 +139,7 @@ pub fn linear_declared_scale(s: LinearScale) -> Result<DeclaredLinearScale, Leve
     Ok(DeclaredLinearScale {
         value_min: s.value_min,
         value_increment: step,
-        n_levels: s.n_levels as u32,
+        n_levels: u32::from(s.n_levels),
         data_floor_code: 2,
     })
 }

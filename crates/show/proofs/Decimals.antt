@@ -1,11 +1,10 @@
 -- Laws for decimal numbers and the scheme's word. Assumes nothing.
-use Rattle.std.proofs.Common.{◌≡◌, ℕ, zero, suc, ◌+◌, ◌-◌, ◌*◌, ◌^◌, ◌<◌, ◌≤◌, Bool, true, false, cond, ◌||◌, eqb, ltb, leb, List, [], ◌∷◌, ◌++◌, length, get_or, take, drop, sym, refl, ap, ◌∙◌, arith, length-drop, length-take, ltb-false, eq-eqb, ne_eqb, leb-false, leb-true}
+use Rattle.std.proofs.Common.{◌≡◌, ℕ, zero, suc, ◌+◌, ◌-◌, ◌*◌, ◌^◌, ◌<◌, ◌≤◌, Bool, true, false, cond, ◌||◌, eqb, ltb, List, [], ◌∷◌, ◌++◌, length, get_or, take, drop, sym, refl, ap, ◌∙◌, arith, length-drop, ltb-false, eq-eqb, ne_eqb}
 use lib.Ieee.{Float, nan}
 use Rattle.wire.specs.Float.{f32}
-use Rattle.wire.proofs.Alike.{unlike}
 use Rattle.std.proofs.lemmas.List.Sums.{prefix_len-le-length}
 use Rattle.std.specs.Prelude.{Option, Some, None}
-use Rattle.show.specs.Words.{is_digit, number_from, no_point, point_at, quotient_of, over, decimal_of, begins}
+use Rattle.show.specs.Words.{is_digit, number_from, no_point, point_at, quotient_of, over, decimal_of}
 
 -- the powers of ten from 10^n on
 abbrev pub powers : ℕ → ℕ → List Float

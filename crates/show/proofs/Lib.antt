@@ -3,5 +3,4 @@ pub mod Digits
 pub mod Examples
 pub mod Gaps
 pub mod InPart
-pub mod Powers
 pub mod Signs

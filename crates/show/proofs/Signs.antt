@@ -1,5 +1,5 @@
 -- Signed numbers that a test showed to be negative or not. Assumes nothing.
-use Rattle.std.proofs.Common.{◌≡◌, ℕ, suc, ◌+◌, ◌-◌, ◌<◌, true, false, T, ℤ, pos, negsuc, nat_abs, refl, arith, to_z-of_z, w16, w32, w64, Fits, SFits, to_z, of_z, ltb-true}
+use Rattle.std.proofs.Common.{◌≡◌, ℕ, suc, ◌+◌, ◌-◌, ◌<◌, true, false, T, ℤ, pos, negsuc, nat_abs, refl, arith, to_z-of_z, w32, w64, Fits, SFits, to_z, of_z, ltb-true}
 use lib.Signed.{non_neg, lt_z}
 use mir.Facts.{to_z_pos}
 use Rattle.xdr.specs.Xdr.{at_least0}

@@ -1,9 +1,6 @@
-pub mod Counts
 pub mod Dates
-pub mod Digits
 pub mod Endings
 pub mod Gaps
 pub mod InPart
-pub mod Printed
 pub mod Rounded
 pub mod Words

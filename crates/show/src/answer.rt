@@ -3,8 +3,13 @@ ghost use Rattle.std.specs.Prelude.{◌≡◌, ◌≤◌, if◌then◌else◌};
 ghost use Rattle.sweep.specs.Sweep.{buffers};
 ghost use Rattle.show.specs.InPart.{ReadInPart};
 
-use crate::text::Text;
+use crate::picture::Lent;
+use crate::refusals::Refusal;
+use crate::rooms::{CODES, RADIALS, VALUES};
 use scale::physical::Scheme;
+use std::alloc::Global;
+use std::io;
+use std::io::Write;
 use sweep::sweep::Sweep;
 use wire::error::Level3DecodeError;
 
@@ -39,7 +44,7 @@ fn read(
     })
 }
 
-// How many marks are shown: none without gaps.
+// How many marks are lent and shown: none without gaps.
 fn shown_marks(gaps: bool) -> usize
     ensures value { result ≡ (if gaps then 4096 else 0) }
     ensures upper_bound { result ≤ 4096 }
@@ -47,18 +52,29 @@ fn shown_marks(gaps: bool) -> usize
     if gaps { 4096 } else { 0 }
 }
 
+// How a body is to be read.
+#[derive(Clone, Copy)]
+pub struct Asked {
+    pub scheme: Scheme,
+    pub clock: u64,
+    pub gaps: bool,
+}
+
 // The reading that was asked for. The one with gaps takes the values of all cells: without room for them it is refused with 36.
 fn read_asked(
-    gaps: bool,
+    asked: Asked,
     file: &[u8],
-    clock: u64,
-    scheme: Scheme,
     body: &[u8],
     azimuths: &mut [f64],
     codes: &mut [u16],
     physical: &mut [f32],
     marks: &mut [u8],
 ) -> Result<Sweep, Level3DecodeError> {
+    let Asked {
+        scheme,
+        clock,
+        gaps,
+    } = asked;
     if gaps {
         return sweep::with_gaps::read_sweep_with_gaps(
             file, clock, scheme, body, azimuths, codes, physical, marks,
@@ -75,24 +91,20 @@ pub enum Ending {
     Failed,
 }
 
-// One set of buffers for both readings: two would not fit the stack.
 pub fn show(
-    out: &mut Text,
-    gaps: bool,
+    out: &mut Vec<u8>,
+    alloc: Global,
+    asked: Asked,
     file: &[u8],
-    clock: u64,
-    scheme: Scheme,
     body: &[u8],
-) -> Ending {
-    let mut azimuths = crate::buffers::azimuths();
-    let mut codes = crate::buffers::codes();
-    let mut physical = crate::buffers::physical();
-    let mut marks = crate::buffers::marks();
+) -> io::Result<Ending> {
+    let mut azimuths = vec![in alloc; 0.0f64; RADIALS]?;
+    let mut codes = vec![in alloc; 0u16; CODES]?;
+    let mut physical = vec![in alloc; 0.0f32; VALUES]?;
+    let mut marks = vec![in alloc; 0u8; shown_marks(asked.gaps)]?;
     match read_asked(
-        gaps,
+        asked,
         file,
-        clock,
-        scheme,
         body,
         &mut azimuths,
         &mut codes,
@@ -100,13 +112,18 @@ pub fn show(
         &mut marks,
     ) {
         Err(e) => {
-            crate::refusals::print(out, e);
-            Ending::Refused
+            writeln!(out, "refused: {}", Refusal(e))?;
+            Ok(Ending::Refused)
         }
         Ok(s) => {
-            let n = shown_marks(gaps);
-            crate::picture::print(out, s, file, &azimuths, &codes, &physical, &marks[..n]);
-            Ending::Shown
+            let lent = Lent {
+                azimuths: &azimuths,
+                codes: &codes,
+                physical: &physical,
+                marks: &marks,
+            };
+            crate::picture::print(out, s, file, lent)?;
+            Ok(Ending::Shown)
         }
     }
 }

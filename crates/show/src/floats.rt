@@ -2,41 +2,80 @@
 // float's whole digits and power of two, so that nothing else rounds. The sign is the float's own, also where all digits are 0. The
 // figures of a scale, of gates and of refusals have six decimals below 2^23. From 2^52 on, and where six decimals would all be 0, a
 // float is written exactly, as a whole number times a power of two. Infinities are inf and -inf, a NaN is nan.
-ghost use Rattle.std.specs.Prelude.{◌≡◌, ◌^◌, ◌<◌, ◌≤◌};
+//
+// By hand: the library's `{:.3}` takes the even one where two are as near, and nothing is known of a float's text.
+ghost use Rattle.std.specs.Prelude.{◌≡◌, ◌+◌, ◌/◌, ◌%◌, ◌^◌, ◌<◌};
 ghost use Rattle.show.specs.Rounded.{rounded, millionths, thousandths};
 
-use crate::text::Text;
+use std::fmt;
+use std::fmt::{Display, InlineText};
+
+fn sign(negative: bool) -> &'static str {
+    if negative { "-" } else { "" }
+}
+
+// A number of so many decimals. The sign stands also where all digits are 0.
+#[derive(Clone, Copy)]
+pub struct Decimal {
+    negative: bool,
+    whole: u64,
+    rest: u64,
+    places: usize,
+}
+
+impl Decimal {
+    // Of so many parts, of which 10^places make a whole.
+    pub fn new(negative: bool, parts: u64, places: u8) -> Decimal
+        requires { 10 ^ places < 2 ^ 64 }
+        ensures whole { result.whole ≡ parts / 10 ^ places }
+        ensures rest { result.rest ≡ parts % 10 ^ places }
+    {
+        let unit = 10u64.pow(u32::from(places));
+        Decimal {
+            negative,
+            whole: parts / unit,
+            rest: parts % unit,
+            places: usize::from(places),
+        }
+    }
+}
+
+impl Display for Decimal {
+    fn fmt<W: fmt::Write>(&self, f: &mut fmt::Formatter<W>) -> fmt::Result {
+        let sign = sign(self.negative);
+        let whole = self.whole;
+        let rest = self.rest;
+        let places = self.places;
+        f.pad(InlineText::<48>::of(format_args!("{sign}{whole}.{rest:0places$}")).as_str())
+    }
+}
 
 // A float's distance from 0, in whole numbers.
 #[derive(Clone, Copy)]
 pub enum Size {
-    // So many thousandths or millionths, rounded.
+    // So many thousandths, rounded.
     Units(u64),
     // digits x 2^power
-    Large { digits: u64, power: u64 },
+    Large { digits: u64, power: u32 },
     Infinite,
 }
 
 // The whole number nearest to n / 2^shift, the greater where two are as near.
-fn nearest(n: u64, shift: u64) -> u64
+fn nearest(n: u64, shift: u32) -> u64
     requires { (n < 2 ^ 63) × (0 < shift) }
     ensures { result ≡ rounded n shift }
 {
-    let mut half = n;
-    let mut left = shift;
-    while 1 < left {
-        half /= 2;
-        left -= 1;
-    }
-    (half + 1) / 2
+    (n.unbounded_shr(shift - 1) + 1) / 2
 }
 
 // An f64's bits without the sign, in thousandths: digits x 2^(exponent - 1075).
+#[tactic(auto, unfolding(crate::specs::Rounded::thousandths))]
 fn size64(rest: u64) -> Size
     requires { rest < 2 ^ 63 }
     ensures { result ≡ thousandths rest }
 {
-    let exponent = rest / 0x10_0000_0000_0000;
+    // In range by the proof: `try_from` would be a test that cannot fail.
+    let exponent = (rest / 0x10_0000_0000_0000) as u32;
     let fraction = rest % 0x10_0000_0000_0000;
     if exponent == 0 {
         return Size::Units(nearest(fraction * 1000, 1074));
@@ -55,121 +94,86 @@ fn size64(rest: u64) -> Size
 }
 
 // An f32's bits without the sign, below 2^23, in millionths: digits x 2^(exponent - 150).
-fn millionths32(rest: u64) -> u64
+#[tactic(auto, unfolding(crate::specs::Rounded::millionths))]
+fn millionths32(rest: u32) -> u64
     requires { rest < 1258291200 }
     ensures { result ≡ millionths rest }
 {
     let exponent = rest / 0x80_0000;
-    let fraction = rest % 0x80_0000;
+    let fraction = u64::from(rest % 0x80_0000);
     if exponent == 0 {
         return nearest(fraction * 1000000, 149);
     }
     nearest((fraction + 0x80_0000) * 1000000, 150 - exponent)
 }
 
+// An f64 with three decimals.
+#[derive(Clone, Copy)]
+pub struct Double(pub f64);
+
+impl Display for Double {
+    fn fmt<W: fmt::Write>(&self, f: &mut fmt::Formatter<W>) -> fmt::Result {
+        if self.0.is_nan() {
+            return f.pad("nan");
+        }
+        let bits = f64::to_bits(self.0);
+        let negative = 0x8000_0000_0000_0000 <= bits;
+        match size64(bits % 0x8000_0000_0000_0000) {
+            Size::Units(n) => Decimal::new(negative, n, 3).fmt(f),
+            Size::Infinite if negative => f.pad("-inf"),
+            Size::Infinite => f.pad("inf"),
+            Size::Large { digits, power } => { write!(f, "{}{digits} x 2^{power}", sign(negative)) }
+        }
+    }
+}
+
+// An f32 with three decimals, or - for a NaN: a cell's value, where it has one.
+#[derive(Clone, Copy)]
+pub struct Cell(pub f32);
+
+impl Display for Cell {
+    fn fmt<W: fmt::Write>(&self, f: &mut fmt::Formatter<W>) -> fmt::Result {
+        if self.0.is_nan() {
+            return f.pad("-");
+        }
+        // An f64 holds it exactly.
+        Double(std::num::f32_to_f64_with_nan(self.0)).fmt(f)
+    }
+}
+
 // An f32 below 2^23, from its bits without the sign, exactly: digits x 2^-power.
-fn print_small(out: &mut Text, negative: bool, rest: u64)
+fn write_small<W: fmt::Write>(f: &mut fmt::Formatter<W>, rest: u32) -> fmt::Result
     requires { rest < 1258291200 }
 {
     let exponent = rest / 0x80_0000;
     let fraction = rest % 0x80_0000;
-    if negative {
-        crate::text::say(out, b"-");
-    }
     if exponent == 0 {
-        crate::text::whole(out, fraction);
-        crate::text::say(out, b" x 2^-149");
-        return;
+        return write!(f, "{fraction} x 2^-149");
     }
-    crate::text::whole(out, fraction + 0x80_0000);
-    crate::text::say(out, b" x 2^-");
-    crate::text::whole(out, 150 - exponent);
-}
-
-// Spaces up to the width, the sign, and the digits around the point: `unit` parts make a whole.
-pub(crate) fn print_units(out: &mut Text, negative: bool, n: u64, unit: u64, width: usize)
-    requires { (0 < unit) × (unit ≤ 1000000) }
-{
-    let mut whole = [0u8; 20];
-    let k = crate::numbers::decimal(n / unit, &mut whole);
-    // A 1 stands before the decimals, so that none of their zeros is lost.
-    let mut decimals = [0u8; 20];
-    let j = crate::numbers::decimal(unit + n % unit, &mut decimals);
-    let room = crate::text::left(width, k);
-    if negative {
-        crate::text::pad(out, crate::text::left(room, 1), j);
-        crate::text::say(out, b"-");
-    } else {
-        crate::text::pad(out, room, j);
-    }
-    crate::text::say(out, &whole[..k]);
-    crate::text::say(out, b".");
-    crate::text::say(out, &decimals[1..j]);
-}
-
-fn print_size(out: &mut Text, negative: bool, size: Size, width: usize) {
-    match size {
-        Size::Units(n) => print_units(out, negative, n, 1000, width),
-        Size::Infinite => {
-            if negative {
-                crate::text::right(out, b"-inf", width);
-            } else {
-                crate::text::right(out, b"inf", width);
-            }
-        }
-        Size::Large { digits, power } => {
-            if negative {
-                crate::text::say(out, b"-");
-            }
-            crate::text::whole(out, digits);
-            crate::text::say(out, b" x 2^");
-            crate::text::whole(out, power);
-        }
-    }
-}
-
-// An f64 with three decimals at the right end of a column.
-pub fn double(out: &mut Text, x: f64, width: usize) {
-    if x.is_nan() {
-        crate::text::right(out, b"nan", width);
-        return;
-    }
-    let bits = f64::to_bits(x);
-    let size = size64(bits % 0x8000_0000_0000_0000);
-    print_size(out, 0x8000_0000_0000_0000 <= bits, size, width);
-}
-
-// An f32 with three decimals; an f64 holds it exactly.
-pub fn single(out: &mut Text, x: f32, width: usize) {
-    double(out, std::num::f32_to_f64_with_nan(x), width);
+    write!(f, "{} x 2^-{}", fraction + 0x80_0000, 150 - exponent)
 }
 
 // An f32 with six decimals.
-pub fn fine(out: &mut Text, x: f32, width: usize) {
-    if x.is_nan() {
-        crate::text::right(out, b"nan", width);
-        return;
-    }
-    let bits = f32::to_bits(x);
-    let rest = bits % 0x8000_0000;
-    if rest < 1258291200 {
-        let digits = u64::from(rest);
-        let n = millionths32(digits);
-        if n == 0 && digits != 0 {
-            print_small(out, 0x8000_0000 <= bits, digits);
-            return;
-        }
-        print_units(out, 0x8000_0000 <= bits, n, 1000000, width);
-        return;
-    }
-    single(out, x, width);
-}
+#[derive(Clone, Copy)]
+pub struct Fine(pub f32);
 
-// A cell's value: - where it has none.
-pub fn cell(out: &mut Text, x: f32, width: usize) {
-    if x.is_nan() {
-        crate::text::right(out, b"-", width);
-        return;
+impl Display for Fine {
+    fn fmt<W: fmt::Write>(&self, f: &mut fmt::Formatter<W>) -> fmt::Result {
+        if self.0.is_nan() {
+            return f.pad("nan");
+        }
+        let bits = f32::to_bits(self.0);
+        let negative = 0x8000_0000 <= bits;
+        let rest = bits % 0x8000_0000;
+        if 1258291200 <= rest {
+            return Double(std::num::f32_to_f64_with_nan(self.0)).fmt(f);
+        }
+        match millionths32(rest) {
+            0 if rest != 0 => {
+                f.write_str(sign(negative))?;
+                write_small(f, rest)
+            }
+            n => Decimal::new(negative, n, 6).fmt(f),
+        }
     }
-    single(out, x, width);
 }

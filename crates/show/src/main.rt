@@ -12,196 +12,163 @@ ghost use Rattle.show.specs.Endings.{status_of};
 use scale::physical::Scheme;
 
 mod answer;
-mod buffers;
 mod dates;
 mod files;
 mod floats;
-mod numbers;
 mod picture;
 mod refusals;
-mod text;
+mod rooms;
 mod words;
 
-use answer::Ending;
-use files::Loaded;
+use answer::{Asked, Ending};
+use refusals::Refusal;
+use std::alloc::Global;
+use std::fmt::Display;
 use std::fs::Files;
 use std::io;
+use std::io::Write;
 use std::process::ExitCode;
 use std::rt::Clock;
-use text::Text;
-use words::{BadScheme, NoClock};
+use words::NoClock;
+
+const USAGE: &str = "usage: show FILE [BODY SCHEME [CLOCK] [gaps]]
+  FILE    the product file; its first 4096 bytes are read
+          without BODY and SCHEME its head alone is printed
+  BODY    the unpacked symbology body, at most 1400000 bytes
+  SCHEME  halfword, float, precipitation:FACTOR, legacy:POSTSCALE or class
+          FACTOR and POSTSCALE are numbers such as 1, 25.4 or 0.01: at most
+          7 digits beside leading zeros, at most 10 after the point
+  CLOCK   the time now in seconds since 1970; without it the system's clock
+  gaps    a radial whose data make no row is drawn as a gap, not refused
+";
+
+// What can't be written to standard error is lost.
+fn warn<T: Display + Drop>(rt: &impl Eprint, what: T) {
+    let _ = eprintln!(rt; "show: {what}");
+}
 
 fn print_usage(rt: &impl Eprint) {
-    text::warn(rt, "usage: show FILE [BODY SCHEME [CLOCK] [gaps]]\n");
-    text::warn(
-        rt,
-        "  FILE    the product file; its first 4096 bytes are read\n",
-    );
-    text::warn(
-        rt,
-        "          without BODY and SCHEME its head alone is printed\n",
-    );
-    text::warn(
-        rt,
-        "  BODY    the unpacked symbology body, at most 1400000 bytes\n",
-    );
-    text::warn(
-        rt,
-        "  SCHEME  halfword, float, precipitation:FACTOR, legacy:POSTSCALE or class\n",
-    );
-    text::warn(
-        rt,
-        "          FACTOR and POSTSCALE are numbers such as 1, 25.4 or 0.01: at most\n",
-    );
-    text::warn(
-        rt,
-        "          7 digits beside leading zeros, at most 10 after the point\n",
-    );
-    text::warn(
-        rt,
-        "  CLOCK   the time now in seconds since 1970; without it the system's clock\n",
-    );
-    text::warn(
-        rt,
-        "  gaps    a radial whose data make no row is drawn as a gap, not refused\n",
-    );
+    let _ = rt.eprint(USAGE);
 }
 
 // The file's first bytes, the body, and the answer.
 fn run<R: Files + Eprint>(
     rt: &R,
-    out: &mut Text,
+    alloc: Global,
+    out: &mut Vec<u8>,
     file_name: &str,
     body_name: &str,
-    gaps: bool,
-    scheme: Scheme,
-    clock: u64,
-) -> Ending {
-    let mut file = buffers::file_bytes();
-    let file_len = match files::load(rt, file_name, &mut file) {
-        Some(Loaded::Whole(n)) | Some(Loaded::Part(n)) => n,
-        None => return Ending::Failed,
+    asked: Asked,
+) -> io::Result<Ending> {
+    let Some(file) = files::load(rt, alloc, file_name, rooms::FILE) else {
+        return Ok(Ending::Failed);
     };
-    let mut body = buffers::body_bytes();
-    let body_len = match files::load(rt, body_name, &mut body) {
-        Some(Loaded::Whole(n)) => n,
-        None => return Ending::Failed,
-        Some(Loaded::Part(_)) => {
-            text::warn(
-                rt,
-                "show: the body has more than 1400000 bytes, for which this program has no room;",
-            );
-            text::warn(rt, " the library reads bodies of any length\n");
-            return Ending::Failed;
-        }
+    // One byte more shows that the body is longer.
+    let Some(body) = files::load(rt, alloc, body_name, rooms::BODY + 1) else {
+        return Ok(Ending::Failed);
     };
-    let f = files::within(file_len, &file);
-    let b = files::within(body_len, &body);
-    if words::starts_with(&body[..b], b"BZh") {
-        text::warn(
+    if rooms::BODY < body.len() {
+        let room = rooms::BODY;
+        warn(
             rt,
-            "show: BODY begins with BZh: it is still packed; unpack the bzip2 stream first,",
+            format_args!(
+                "the body has more than {room} bytes, for which this program has no room; the library reads bodies of any length"
+            ),
         );
-        text::warn(rt, " as bunzip2 -c BODY does\n");
-        return Ending::Failed;
+        return Ok(Ending::Failed);
     }
-    answer::show(out, gaps, &file[..f], clock, scheme, &body[..b])
+    if words::starts_with(&body, b"BZh") {
+        warn(
+            rt,
+            "BODY begins with BZh: it is still packed; unpack the bzip2 stream first, as bunzip2 -c BODY does",
+        );
+        return Ok(Ending::Failed);
+    }
+    answer::show(out, alloc, asked, &file, &body)
 }
 
-// The head of a file; class has no scale fields, so that no scheme has a say.
-fn show_head(out: &mut Text, file: &[u8], clock: u64) -> Ending {
-    match sweep::plan::read_head(Scheme::Class, file, clock) {
+// The file's first bytes, and its head by the system's clock; class has no scale fields, so that no scheme has a say.
+fn run_head<R: Files + Clock + Eprint>(
+    rt: &R,
+    alloc: Global,
+    out: &mut Vec<u8>,
+    file_name: &str,
+) -> io::Result<Ending> {
+    let Some(clock) = words::system_clock(rt) else {
+        warn(rt, "the system has no time; give BODY, SCHEME and CLOCK");
+        return Ok(Ending::Failed);
+    };
+    let Some(file) = files::load(rt, alloc, file_name, rooms::FILE) else {
+        return Ok(Ending::Failed);
+    };
+    match sweep::plan::read_head(Scheme::Class, &file, clock) {
         Err(e) => {
-            refusals::print(out, e);
-            Ending::Refused
+            writeln!(out, "refused: {}", Refusal(e))?;
+            Ok(Ending::Refused)
         }
         Ok(h) => {
-            picture::print_head(out, h, file);
-            Ending::Shown
+            picture::print_head(out, h, &file)?;
+            Ok(Ending::Shown)
         }
     }
 }
 
-// The file's first bytes, and its head by the system's clock.
-fn run_head<R: Files + Clock + Eprint>(rt: &R, out: &mut Text, file_name: &str) -> Ending {
-    let clock = match words::system_clock(rt) {
-        Some(t) => t,
-        None => {
-            text::warn(
-                rt,
-                "show: the system has no time; give BODY, SCHEME and CLOCK\n",
-            );
-            return Ending::Failed;
+// How the words SCHEME, CLOCK and gaps say that a body is to be read. Where they don't, standard error says why.
+fn asked<R: Clock + Eprint>(
+    rt: &R,
+    scheme: &str,
+    clock: Option<&str>,
+    gaps: bool,
+) -> Option<Asked> {
+    let scheme = match words::scheme_argument(scheme) {
+        Ok(scheme) => scheme,
+        Err(e) => {
+            warn(rt, e);
+            print_usage(rt);
+            return None;
         }
     };
-    let mut file = buffers::file_bytes();
-    let file_len = match files::load(rt, file_name, &mut file) {
-        Some(Loaded::Whole(n)) | Some(Loaded::Part(n)) => n,
-        None => return Ending::Failed,
-    };
-    let f = files::within(file_len, &file);
-    show_head(out, &file[..f], clock)
+    match words::clock_argument(rt, clock) {
+        Ok(clock) => Some(Asked {
+            scheme,
+            clock,
+            gaps,
+        }),
+        Err(e) => {
+            warn(rt, e);
+            if let NoClock::Bad = e {
+                print_usage(rt);
+            }
+            None
+        }
+    }
 }
 
 // What the arguments ask for; the first is the program's name.
-fn run_words<R: Files + Clock + Eprint>(rt: &R, out: &mut Text, all: &[String]) -> Ending {
-    let count = all.len();
-    if count == 2 {
-        return run_head(rt, out, all[1].as_str());
-    }
+fn run_words<R: Files + Clock + Eprint>(
+    rt: &R,
+    alloc: Global,
+    out: &mut Vec<u8>,
+    all: &[String],
+) -> io::Result<Ending> {
     // The words without gaps; SCHEME is never taken for it.
-    let mut words = count;
-    let mut gaps = false;
-    if 4 < count {
-        gaps = words::gaps_argument(all, count - 1);
-        if gaps {
-            words = count - 1;
-        }
-    }
-    if words < 4 || 5 < words {
-        print_usage(rt);
-        return Ending::Failed;
-    }
-    let scheme = match words::scheme_argument(all, 3) {
-        Ok(s) => s,
-        Err(BadScheme::Unknown) => {
-            text::warn(rt, "show: SCHEME is not one of those below\n");
+    let (words, gaps) = match all {
+        [words @ .., last] if 3 < words.len() && words::is_gaps(last.as_bytes()) => (words, true),
+        _ => (all, false),
+    };
+    let (file, body, scheme, clock) = match words {
+        [_, file] => return run_head(rt, alloc, out, file.as_str()),
+        [_, file, body, scheme] => (file, body, scheme, None),
+        [_, file, body, scheme, clock] => (file, body, scheme, Some(clock.as_str())),
+        _ => {
             print_usage(rt);
-            return Ending::Failed;
-        }
-        Err(BadScheme::BadNumber) => {
-            text::warn(
-                rt,
-                "show: the number in SCHEME is not one as described below\n",
-            );
-            print_usage(rt);
-            return Ending::Failed;
+            return Ok(Ending::Failed);
         }
     };
-    let clock = match words::clock_argument(rt, &all[..words], 4) {
-        Ok(t) => t,
-        Err(NoClock::Bad) => {
-            text::warn(
-                rt,
-                "show: CLOCK is not a whole number of at most 15 digits\n",
-            );
-            print_usage(rt);
-            return Ending::Failed;
-        }
-        Err(NoClock::Missing) => {
-            text::warn(rt, "show: the system has no time; give CLOCK\n");
-            return Ending::Failed;
-        }
-    };
-    run(
-        rt,
-        out,
-        all[1].as_str(),
-        all[2].as_str(),
-        gaps,
-        scheme,
-        clock,
-    )
+    match asked(rt, scheme.as_str(), clock, gaps) {
+        Some(asked) => run(rt, alloc, out, file.as_str(), body.as_str(), asked),
+        None => Ok(Ending::Failed),
+    }
 }
 
 fn arguments(rt: &HostRuntime) -> io::Result<Vec<String>> {
@@ -219,8 +186,16 @@ fn status(ending: Ending) -> u8
     }
 }
 
+// The answer is written at the end, all at once.
+fn answer_words(rt: &HostRuntime, words: &[String]) -> io::Result<Ending> {
+    let mut out = Vec::new(rt.alloc());
+    let ending = run_words(rt, rt.alloc(), &mut out, words)?;
+    rt.write_all(&out)?;
+    Ok(ending)
+}
+
 fn fail(rt: &HostRuntime, what: &str, error: io::Error) -> ExitCode {
-    let _ = eprintln!(rt; "show: {what}: {error}");
+    warn(rt, format_args!("{what}: {error}"));
     ExitCode::from(status(Ending::Failed))
 }
 
@@ -229,10 +204,8 @@ fn main(rt: HostRuntime) -> ExitCode {
         Ok(words) => words,
         Err(e) => return fail(&rt, "the arguments", e),
     };
-    let mut out = Text::new(rt.alloc());
-    let ending = run_words(&rt, &mut out, words.as_slice());
-    if let Err(e) = out.write(&rt) {
-        return fail(&rt, "the output could not be written", e);
+    match answer_words(&rt, &words) {
+        Ok(ending) => ExitCode::from(status(ending)),
+        Err(e) => fail(&rt, "the output could not be written", e),
     }
-    ExitCode::from(status(ending))
 }

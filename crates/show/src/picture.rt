@@ -1,192 +1,134 @@
 // An accepted sweep in words: what the file says, the scale, the figures, and the first cells of the first radials.
-ghost use Rattle.std.specs.Prelude.{◌≡◌, ◌<◌, ◌≤◌, ◌==◌};
-ghost use Rattle.show.specs.Gaps.{one_if, marked as markedIn, gap_at};
+ghost use Rattle.std.specs.Prelude.{◌≡◌, ◌^◌, ◌<◌, ◌≤◌, ◌==◌};
+ghost use Rattle.show.specs.Gaps.{marked as markedIn, gap_at};
 
-use crate::text::Text;
+use crate::dates::{Day, Time};
+use crate::floats::{Cell, Decimal, Double, Fine};
 use head::pdb::PdbFields;
 use scale::scaling::DeclaredLinearScale;
+use std::fmt::Display;
+use std::io;
+use std::io::Write;
 use sweep::plan::Head;
 use sweep::sweep::Sweep;
 use symbology::figures::{Figures, Geometry, Packet};
 
-// A line's name, in a column of its own.
-fn label(out: &mut Text, s: &[u8]) {
-    crate::text::say(out, s);
-    crate::text::pad(out, 16, s.len());
+// A line: a name, a value at the right end of a column, and what stands behind it.
+fn line<T: Display + Drop>(out: &mut Vec<u8>, name: &str, value: T, unit: &str) -> io::Result<()> {
+    writeln!(out, "{name:16}{value:>16}{unit}")
 }
 
-fn whole_line(out: &mut Text, name: &[u8], n: usize) {
-    label(out, name);
-    crate::text::right_size(out, n, 16);
-    crate::text::say(out, b"\n");
-}
-
-fn signed_line(out: &mut Text, name: &[u8], z: i32) {
-    label(out, name);
-    crate::text::right_signed(out, z, 16);
-    crate::text::say(out, b"\n");
-}
-
-// Degrees from a whole number of parts, `unit` to a degree: exact, so that no float's digits are printed.
-fn degrees_line(out: &mut Text, name: &[u8], z: i32, unit: u64)
-    requires { (0 < unit) × (unit ≤ 1000000) }
+// Degrees from a whole number of parts, 10^places to a degree: exact, so that no float's digits are printed.
+fn degrees_line(out: &mut Vec<u8>, name: &str, z: i32, places: u8) -> io::Result<()>
+    requires { 10 ^ places < 2 ^ 64 }
 {
-    label(out, name);
-    crate::floats::print_units(out, z < 0, u64::from(z.unsigned_abs()), unit, 16);
-    crate::text::say(out, b" degrees\n");
+    let degrees = Decimal::new(z < 0, u64::from(z.unsigned_abs()), places);
+    line(out, name, degrees, " degrees")
 }
 
 // Metres from whole feet, exact too: a foot is 3,048 ten-thousandths.
-fn height_line(out: &mut Text, feet: i32) {
-    label(out, b"height");
-    let n = u64::from(feet.unsigned_abs()) * 3048;
-    crate::floats::print_units(out, feet < 0, n, 10000, 16);
-    crate::text::say(out, b" m, ");
-    crate::text::signed(out, feet);
-    crate::text::say(out, b" feet\n");
+fn height_line(out: &mut Vec<u8>, feet: i32) -> io::Result<()> {
+    let metres = Decimal::new(feet < 0, u64::from(feet.unsigned_abs()) * 3048, 4);
+    writeln!(out, "{:16}{metres:>16} m, {feet} feet", "height")
 }
 
-fn fine_line(out: &mut Text, name: &[u8], x: f32, unit: &[u8]) {
-    label(out, name);
-    crate::floats::fine(out, x, 16);
-    crate::text::say(out, unit);
+// A part of the file's token, which is of letters and digits.
+fn word(file: &[u8], at: usize) -> &str {
+    let bytes = file.get(at..).and_then(|rest| rest.get(..3));
+    bytes
+        .and_then(|word| str::from_utf8(word).ok())
+        .unwrap_or("")
 }
 
-// Three bytes of the file from a place on.
-fn word_line(out: &mut Text, name: &[u8], file: &[u8], at: usize) {
-    label(out, name);
-    if at <= file.len() {
-        if 3 <= file.len() - at {
-            let end = at + 3;
-            crate::text::right(out, &file[at..end], 16);
-        }
-    }
-    crate::text::say(out, b"\n");
+fn print_token(out: &mut Vec<u8>, file: &[u8], at: usize) -> io::Result<()> {
+    line(out, "product", word(file, at), "")?;
+    line(out, "site", word(file, at.saturating_add(3)), "")
 }
 
-fn print_token(out: &mut Text, file: &[u8], at: usize) {
-    word_line(out, b"product", file, at);
-    if at <= file.len() {
-        word_line(out, b"site", file, at + 3);
-    }
-}
-
-fn date_line(out: &mut Text, days: u16) {
-    label(out, b"scan date");
+fn date_line(out: &mut Vec<u8>, days: u16) -> io::Result<()> {
     match calendar::date::calendar_day(days) {
-        Ok(d) => {
-            let text = crate::dates::date_text(d);
-            crate::text::right(out, &text, 16);
-        }
+        Ok(d) => writeln!(out, "scan date             {}", Day(d)),
         // Day 0, which no accepted head has.
-        Err(_) => crate::text::right(out, b"-", 16),
+        Err(_) => line(out, "scan date", "-", ""),
     }
-    crate::text::say(out, b"\n");
 }
 
-// An accepted head has a second of the day, 0 to 86,399.
-fn time_line(out: &mut Text, seconds: i32) {
-    label(out, b"time of day");
-    let text = crate::dates::time_text(xdr::xdr::at_least_0(seconds));
-    crate::text::right(out, &text, 16);
-    crate::text::say(out, b" UTC\n");
+fn print_fields(out: &mut Vec<u8>, f: PdbFields, time: u64) -> io::Result<()> {
+    degrees_line(out, "latitude", f.lat_thousandths, 3)?;
+    degrees_line(out, "longitude", f.lon_thousandths, 3)?;
+    height_line(out, i32::from(f.height_feet))?;
+    line(out, "product code", f.product_code, "")?;
+    line(out, "vcp", f.vcp, "")?;
+    degrees_line(out, "elevation", i32::from(f.elevation_tenths), 1)?;
+    line(out, "scan days", f.scan_days, "")?;
+    line(out, "scan seconds", f.scan_seconds, "")?;
+    line(out, "scan time", time, " seconds since 1970")?;
+    date_line(out, f.scan_days)?;
+    // An accepted head has a second of the day, 0 to 86,399.
+    let second = Time(xdr::xdr::at_least_0(f.scan_seconds));
+    writeln!(out, "time of day             {second} UTC")
 }
 
-fn print_fields(out: &mut Text, f: PdbFields, time: u64) {
-    degrees_line(out, b"latitude", f.lat_thousandths, 1000);
-    degrees_line(out, b"longitude", f.lon_thousandths, 1000);
-    height_line(out, i32::from(f.height_feet));
-    signed_line(out, b"product code", i32::from(f.product_code));
-    whole_line(out, b"vcp", usize::from(f.vcp));
-    degrees_line(out, b"elevation", i32::from(f.elevation_tenths), 10);
-    whole_line(out, b"scan days", usize::from(f.scan_days));
-    signed_line(out, b"scan seconds", f.scan_seconds);
-    label(out, b"scan time");
-    crate::text::right_whole(out, time, 16);
-    crate::text::say(out, b" seconds since 1970\n");
-    date_line(out, f.scan_days);
-    time_line(out, f.scan_seconds);
+fn print_scale(out: &mut Vec<u8>, s: DeclaredLinearScale) -> io::Result<()> {
+    line(out, "scale minimum", Fine(s.value_min), "")?;
+    line(out, "scale step", Fine(s.value_increment), "")?;
+    line(out, "scale levels", s.n_levels, "")?;
+    line(out, "scale floor", s.data_floor_code, "")
 }
 
-fn print_scale(out: &mut Text, s: DeclaredLinearScale) {
-    fine_line(out, b"scale minimum", s.value_min, b"\n");
-    fine_line(out, b"scale step", s.value_increment, b"\n");
-    whole_line(out, b"scale levels", s.n_levels as usize);
-    whole_line(out, b"scale floor", usize::from(s.data_floor_code));
-}
-
-fn print_declared(out: &mut Text, declared: Option<DeclaredLinearScale>) {
+fn print_declared(out: &mut Vec<u8>, declared: Option<DeclaredLinearScale>) -> io::Result<()> {
     match declared {
         Some(s) => print_scale(out, s),
-        None => {
-            label(out, b"scale");
-            crate::text::right(out, b"none", 16);
-            crate::text::say(out, b"\n");
-        }
+        None => line(out, "scale", "none", ""),
     }
 }
 
-fn print_packet(out: &mut Text, p: Packet) {
-    label(out, b"packet");
+fn packet_name(p: Packet) -> &'static str {
     match p {
-        Packet::Packet16 => crate::text::right(out, b"16", 16),
-        Packet::PacketAf1f => crate::text::right(out, b"AF1F", 16),
-        Packet::Packet28 => crate::text::right(out, b"28", 16),
+        Packet::Packet16 => "16",
+        Packet::PacketAf1f => "AF1F",
+        Packet::Packet28 => "28",
     }
-    crate::text::say(out, b"\n");
 }
 
-fn print_figures(out: &mut Text, f: Figures) {
-    print_packet(out, f.packet);
-    whole_line(out, b"radials", f.n_radials);
-    whole_line(out, b"bins", f.n_bins);
+fn print_figures(out: &mut Vec<u8>, f: Figures) -> io::Result<()> {
+    line(out, "packet", packet_name(f.packet), "")?;
+    line(out, "radials", f.n_radials, "")?;
+    line(out, "bins", f.n_bins, "")?;
     match f.geometry {
-        Geometry::RangeScale(n) => whole_line(out, b"range scale", usize::from(n)),
+        Geometry::RangeScale(n) => line(out, "range scale", n, ""),
         Geometry::Gates {
             gate_width_m,
             first_gate_m,
         } => {
-            fine_line(out, b"gate width", gate_width_m, b" m\n");
-            fine_line(out, b"first gate", first_gate_m, b" m\n");
+            line(out, "gate width", Fine(gate_width_m), " m")?;
+            line(out, "first gate", Fine(first_gate_m), " m")
         }
     }
 }
 
-fn print_codes(out: &mut Text, codes: &[u16]) {
-    crate::text::say(out, b"  codes ");
+fn print_codes(out: &mut Vec<u8>, codes: &[u16]) -> io::Result<()> {
+    write!(out, "  codes ")?;
     for code in codes {
-        crate::text::say(out, b" ");
-        crate::text::right_whole(out, u64::from(*code), 8);
+        write!(out, " {code:>8}")?;
     }
-    crate::text::say(out, b"\n");
+    writeln!(out)
 }
 
-fn print_values(out: &mut Text, physical: &[f32]) {
-    crate::text::say(out, b"  values");
+fn print_values(out: &mut Vec<u8>, physical: &[f32]) -> io::Result<()> {
+    write!(out, "  values")?;
     for value in physical {
-        crate::text::say(out, b" ");
-        crate::floats::cell(out, *value, 8);
+        write!(out, " {:>8}", Cell(*value))?;
     }
-    crate::text::say(out, b"\n");
-}
-
-// 1 for the mark of a gap.
-fn one_if(mark: u8) -> usize
-    ensures value { result ≡ one_if mark }
-    ensures upper_bound { result ≤ 1 }
-{
-    if mark == 0 { 0 } else { 1 }
+    writeln!(out)
 }
 
 // How many radials are marked as gaps.
+#[tactic(auto, using(crate::proofs::Gaps::marked_is))]
 fn marked(marks: &[u8]) -> usize
     ensures { result ≡ markedIn marks.now }
 {
-    let mut n = 0usize;
-    for mark in marks {
-        n += one_if(*mark);
-    }
-    n
+    marks.iter().filter(|mark| **mark != 0).count()
 }
 
 // Whether a radial is marked; past the marks' end none is.
@@ -196,75 +138,46 @@ fn is_gap(marks: &[u8], radial: usize) -> bool
     wire::bytes::byte_at(marks, radial) != 0
 }
 
-// The number of gaps, where there are marks.
-fn print_gaps(out: &mut Text, marks: &[u8]) {
-    if 0 < marks.len() {
-        whole_line(out, b"gaps", marked(marks));
-    }
+// What was read: an azimuth for each radial, and a row of cells for each. `marks` is empty where gaps were not asked for; else a mark
+// past the last radial's is 0.
+#[derive(Clone, Copy)]
+pub struct Lent<'a> {
+    pub azimuths: &'a [f64],
+    pub codes: &'a [u16],
+    pub physical: &'a [f32],
+    pub marks: &'a [u8],
 }
 
-// The first n cells of a radial that stand from place `at` on, or that it is a gap.
-fn print_radial(
-    out: &mut Text,
-    radial: usize,
-    azimuth: f64,
-    gap: bool,
-    at: usize,
-    n: usize,
-    codes: &[u16],
-    physical: &[f32],
-) {
-    crate::text::say(out, b"radial ");
-    crate::text::size(out, radial);
-    crate::text::say(out, b", centre ");
-    crate::floats::double(out, azimuth, 0);
-    crate::text::say(out, b" degrees");
-    if gap {
-        crate::text::say(out, b": a gap\n");
-        return;
+// The first n cells of a radial that stand from place `at` on.
+fn print_cells(out: &mut Vec<u8>, lent: Lent, at: usize, n: usize) -> io::Result<()> {
+    if let Some(codes) = lent.codes.get(at..).and_then(|rest| rest.get(..n)) {
+        print_codes(out, codes)?;
     }
-    crate::text::say(out, b"\n");
-    if at <= codes.len() {
-        if n <= codes.len() - at {
-            let end = at + n;
-            print_codes(out, &codes[at..end]);
-        }
+    if let Some(values) = lent.physical.get(at..).and_then(|rest| rest.get(..n)) {
+        print_values(out, values)?;
     }
-    if at <= physical.len() {
-        if n <= physical.len() - at {
-            let end = at + n;
-            print_values(out, &physical[at..end]);
-        }
-    }
+    Ok(())
 }
 
-fn print_radials(
-    out: &mut Text,
-    radials: usize,
-    bins: usize,
-    azimuths: &[f64],
-    codes: &[u16],
-    physical: &[f32],
-    marks: &[u8],
-) {
+// The first radials, those of 4 that have cells.
+fn print_radials(out: &mut Vec<u8>, lent: Lent, radials: usize, bins: usize) -> io::Result<()> {
     let n = bins.min(8);
     let mut at = 0usize;
-    for (radial, azimuth) in azimuths.iter().enumerate().take(radials.min(4)) {
-        print_radial(
-            out,
-            radial,
-            *azimuth,
-            is_gap(marks, radial),
-            at,
-            n,
-            codes,
-            physical,
-        );
-        if codes.len().saturating_sub(at) < bins {
-            return;
+    for (radial, azimuth) in lent.azimuths.iter().enumerate().take(radials.min(4)) {
+        let centre = Double(*azimuth);
+        write!(out, "radial {radial}, centre {centre} degrees")?;
+        if is_gap(lent.marks, radial) {
+            writeln!(out, ": a gap")?;
+        } else {
+            writeln!(out)?;
+            print_cells(out, lent, at, n)?;
+        }
+        if lent.codes.len().saturating_sub(at) < bins {
+            return Ok(());
         }
         at += bins;
     }
+    Ok(())
 }
 
 // Whether a sweep has more cells than there is room for.
@@ -275,18 +188,6 @@ fn is_over(radials: usize, bins: usize, room: usize) -> bool {
     room / bins < radials
 }
 
-fn print_extent(out: &mut Text, radials: usize, bins: usize) {
-    crate::text::say(out, b"\nthe first ");
-    crate::text::size(out, radials.min(4));
-    crate::text::say(out, b" of ");
-    crate::text::size(out, radials);
-    crate::text::say(out, b" radials, the first ");
-    crate::text::size(out, bins.min(8));
-    crate::text::say(out, b" of ");
-    crate::text::size(out, bins);
-    crate::text::say(out, b" bins\n");
-}
-
 // No radials: the radar has seen nothing.
 fn is_clear(radials: usize) -> bool
     ensures { result ≡ (radials == 0) }
@@ -295,44 +196,36 @@ fn is_clear(radials: usize) -> bool
 }
 
 // A head alone.
-pub fn print_head(out: &mut Text, h: Head, file: &[u8]) {
-    print_token(out, file, h.token);
-    print_fields(out, h.fields, h.time);
+pub fn print_head(out: &mut Vec<u8>, h: Head, file: &[u8]) -> io::Result<()> {
+    print_token(out, file, h.token)?;
+    print_fields(out, h.fields, h.time)
 }
 
-// A sweep. `marks` is empty where gaps were not asked for; else a mark past the last radial's is 0.
-pub fn print(
-    out: &mut Text,
-    s: Sweep,
-    file: &[u8],
-    azimuths: &[f64],
-    codes: &[u16],
-    physical: &[f32],
-    marks: &[u8],
-) {
-    print_token(out, file, s.token);
-    print_fields(out, s.fields, s.time);
-    print_declared(out, s.declared);
-    let figures = s.figures;
-    print_figures(out, figures);
-    print_gaps(out, marks);
-    if is_clear(figures.n_radials) {
-        crate::text::say(out, b"\nclear scan: the radar has seen nothing\n");
-        return;
+pub fn print(out: &mut Vec<u8>, s: Sweep, file: &[u8], lent: Lent) -> io::Result<()> {
+    print_token(out, file, s.token)?;
+    print_fields(out, s.fields, s.time)?;
+    print_declared(out, s.declared)?;
+    print_figures(out, s.figures)?;
+    if !lent.marks.is_empty() {
+        line(out, "gaps", marked(lent.marks), "")?;
     }
-    print_extent(out, figures.n_radials, figures.n_bins);
-    if is_over(figures.n_radials, figures.n_bins, physical.len()) {
-        crate::text::say(out, b"values are worked out for the first ");
-        crate::text::size(out, physical.len());
-        crate::text::say(out, b" cells alone\n");
+    let radials = s.figures.n_radials;
+    let bins = s.figures.n_bins;
+    if is_clear(radials) {
+        return writeln!(out, "\nclear scan: the radar has seen nothing");
     }
-    print_radials(
+    writeln!(
         out,
-        figures.n_radials,
-        figures.n_bins,
-        azimuths,
-        codes,
-        physical,
-        marks,
-    );
+        "\nthe first {} of {radials} radials, the first {} of {bins} bins",
+        radials.min(4),
+        bins.min(8)
+    )?;
+    let room = lent.physical.len();
+    if is_over(radials, bins, room) {
+        writeln!(
+            out,
+            "values are worked out for the first {room} cells alone"
+        )?;
+    }
+    print_radials(out, lent, radials, bins)
 }

@@ -6,6 +6,7 @@ ghost use Rattle.wire.specs.Text.{same};
 ghost use Rattle.scale.specs.declared.physical.Scheme.TheVariants as Scheme;
 
 use scale::physical::Scheme;
+use std::fmt;
 use std::rt::Clock;
 use std::time::{SystemTime, UNIX_EPOCH};
 
@@ -16,6 +17,15 @@ pub enum BadScheme {
     BadNumber,
 }
 
+impl fmt::Display for BadScheme {
+    fn fmt<W: fmt::Write>(&self, f: &mut fmt::Formatter<W>) -> fmt::Result {
+        f.write_str(match self {
+            BadScheme::Unknown => "SCHEME is not one of those below",
+            BadScheme::BadNumber => "the number in SCHEME is not one as described below",
+        })
+    }
+}
+
 // Why there is no time: the word gives none, or the system has none.
 #[derive(Clone, Copy)]
 pub enum NoClock {
@@ -23,7 +33,18 @@ pub enum NoClock {
     Missing,
 }
 
-// The number that the digits of a text make after those of n: of at most 15 digits beside leading zeros.
+impl fmt::Display for NoClock {
+    fn fmt<W: fmt::Write>(&self, f: &mut fmt::Formatter<W>) -> fmt::Result {
+        f.write_str(match self {
+            NoClock::Bad => "CLOCK is not a whole number of at most 15 digits",
+            NoClock::Missing => "the system has no time; give CLOCK",
+        })
+    }
+}
+
+// The number that the digits of a text make after those of n: of at most 15 digits beside leading zeros. By hand: `parse` begins at 0, and
+// takes a sign.
+#[tactic(auto, using(crate::proofs::Digits::read_bad, crate::proofs::Digits::read_long, crate::proofs::Digits::read_next, crate::proofs::Digits::read_end))]
 fn number_from(n: u64, text: &[u8]) -> Option<u64>
     requires { n ≤ 999999999999999 }
     ensures { result ≡ number_from n text.now }
@@ -79,6 +100,7 @@ fn quotient(n: u64, k: usize) -> Option<f32>
     if 9999999 < n || 10 < k {
         return None;
     }
+    // In range by the proof: `try_from` would be a test that cannot fail.
     Some(std::num::nearest_u32_to_f32(n as u32) / ten_to(k))
 }
 
@@ -138,30 +160,17 @@ fn scheme_of(word: &[u8]) -> Result<Scheme, BadScheme>
 // How long a SCHEME or CLOCK may be; a longer word is none.
 const MAX_WORD: usize = 64;
 
-pub fn scheme_argument(words: &[String], i: usize) -> Result<Scheme, BadScheme> {
-    match words.get(i) {
-        Some(word) => {
-            if MAX_WORD < word.len() {
-                return Err(BadScheme::Unknown);
-            }
-            scheme_of(word.as_bytes())
-        }
-        None => Err(BadScheme::Unknown),
+pub fn scheme_argument(word: &str) -> Result<Scheme, BadScheme> {
+    if MAX_WORD < word.len() {
+        return Err(BadScheme::Unknown);
     }
+    scheme_of(word.as_bytes())
 }
 
-fn is_gaps(word: &[u8]) -> bool
+pub fn is_gaps(word: &[u8]) -> bool
     ensures { result ≡ same word.now gaps }
 {
     word == b"gaps".as_slice()
-}
-
-// Whether argument i is the word gaps.
-pub fn gaps_argument(words: &[String], i: usize) -> bool {
-    match words.get(i) {
-        Some(word) => is_gaps(word.as_bytes()),
-        None => false,
-    }
 }
 
 pub fn system_clock(rt: &impl Clock) -> Option<u64> {
@@ -180,15 +189,11 @@ fn clock_of(word: &[u8]) -> Result<u64, NoClock>
     number_from(0, word).ok_or(NoClock::Bad)
 }
 
-// Argument i where there is one, else the system's clock.
-pub fn clock_argument(rt: &impl Clock, words: &[String], i: usize) -> Result<u64, NoClock> {
-    match words.get(i) {
-        Some(word) => {
-            if MAX_WORD < word.len() {
-                return Err(NoClock::Bad);
-            }
-            clock_of(word.as_bytes())
-        }
+// The clock that a word gives where there is one, else the system's.
+pub fn clock_argument(rt: &impl Clock, word: Option<&str>) -> Result<u64, NoClock> {
+    match word {
+        Some(word) if MAX_WORD < word.len() => Err(NoClock::Bad),
+        Some(word) => clock_of(word.as_bytes()),
         None => system_clock(rt).ok_or(NoClock::Missing),
     }
 }

@@ -5,8 +5,8 @@ use native.Mathlib.Numerals.{add-one}
 use native.Mathlib.Omega.{arith}
 use mathlib.Core.List.{List, [], ◌∷◌, ◌++◌, append_assoc}
 use mathlib.Core.Path.{◌≡◌, refl, sym, ap, ap₂, ◌∙◌}
-use lib.ListN.{length, get_or, set, take, drop, replicate, length-set, length-drop, length-append, length-replicate, get_or-replicate, take-append-drop, drop_of_length-le}
-use lib.Seq.{take-suc, take-suc-set, take_all, drop-cons, length-take-le, take-append-le, drop-append-le}
+use lib.ListN.{length, get_or, take, drop, replicate, length-drop, length-append, length-replicate, take-append-drop, drop_of_length-le}
+use lib.Seq.{drop-cons, length-take-le, take-append-le, drop-append-le}
 use lib.Ieee.{Float, nan}
 use borrow.Rule.Slice.PartMut.{put_mid, mid_of}
 use Rattle.wire.proofs.Parts.{part_take, part_drop, part_long}
@@ -119,13 +119,3 @@ blanked_lent_lem bins marks values old e =
     blanked_front bins marks values (drop (length values) old) e ∙ ap (λ (k : ℕ). blanked bins marks values ++ drop k old) (sym (blanked_long bins marks values e))
 
 -- ---- one row, marked or not
-
-pub row_marked : (mark : ℕ) (row : List Float) {ys : List Float} → (mark ≡ 0 → ⊥) → ys ≡ replicate (length row) nan → ys ≡ blanked_row mark row
-unfolding blanked_row
-row_marked zero row h e = absurd (h refl)
-row_marked (suc mark) row h e = e
-
-pub row_unmarked : (mark : ℕ) (row : List Float) → mark ≡ 0 → row ≡ blanked_row mark row
-unfolding blanked_row
-row_unmarked zero row h = refl
-row_unmarked (suc mark) row h = absurd (omega (arith, h))

@@ -14,7 +14,7 @@ use Rattle.symbology.specs.declared.figures.Packet.TheVariants.{Packet28}
 use Rattle.symbology.specs.Circle.{FirstInCircle}
 use Rattle.symbology.proofs.Centres.{circled}
 use Rattle.sweep.specs.declared.sweep.Sweep.{Sweep}
-use Rattle.sweep.specs.Sweep.{Accepted, sweep_of, Buffers, read_into, Ran, SweepAnswer}
+use Rattle.sweep.specs.Sweep.{Accepted, sweep_of, Buffers, read_into, Ran}
 use Rattle.sweep.proofs.Parts.{parts, sizes}
 use Rattle.sweep.proofs.CodeRuns.{Call, Allowed, scheme, file, clock, body, old, new, call_runs}
 

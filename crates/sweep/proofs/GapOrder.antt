@@ -5,8 +5,8 @@ use Rattle.wire.specs.Bytes.{u16_at, u32_at, i16_at, i32_at, signed}
 use Rattle.wire.specs.Float.{f32, f64}
 use Rattle.wire.specs.Products.{codes, known}
 use Rattle.wire.specs.Reading.{gaps, run, more, after_row, ◌>>=◌, ◌>>◌, remaining, u16, u32, unread, radial_data, refuse_if}
-use Rattle.wire.specs.Text.{same, member, all, leading, trim_front, trim_end}
-use Rattle.head.specs.Header.{token, cut, first_token, blank, alphanumeric, message_header, first_of, header_at, scan_time}
+use Rattle.wire.specs.Text.{leading, trim_front, trim_end}
+use Rattle.head.specs.Header.{token, cut, first_token, message_header, first_of, header_at, scan_time}
 use Rattle.head.specs.Pdb.{pdb_fields, hw_i32, hw_i16, hw_u16, field_at}
 use Rattle.scale.specs.Pdb.{value_scaling_linear_hw}
 use Rattle.scale.specs.Physical.{scale_fields, declared_scale, physical_of, value_of}

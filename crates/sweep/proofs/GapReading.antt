@@ -7,8 +7,7 @@ use mathlib.Core.Bool.{Bool, true, false, not}
 use mathlib.Core.Path.{◌≡◌, refl, sym, ap, subst, ◌∙◌}
 use lib.Dec.{ltb}
 use native.Mathlib.Omega.{arith}
-use lib.ListN.{length, take, drop, length-map, length-append, length-drop}
-use lib.Seq.{length-take-le}
+use lib.ListN.{length, take, drop, length-map, length-append}
 use lib.Ieee.{Float}
 use borrow.Author.Tests.{ltb-false}
 use Rattle.wire.specs.declared.error.Level3DecodeError.{Level3DecodeError}
@@ -23,8 +22,7 @@ use Rattle.symbology.specs.Answers.{GapPicture, gap_picture_of, room_in, admit, 
 use Rattle.symbology.specs.declared.figures.Figures.{Figures}
 use Rattle.symbology.specs.declared.figures.Terms.{Terms}
 use Rattle.sweep.specs.declared.plan.Head.{Head}
-use Rattle.sweep.specs.declared.sweep.Sweep.{Sweep}
-use Rattle.wire.proofs.Results.{clash, one_value, one_refusal, through, passed}
+use Rattle.wire.proofs.Results.{one_value, through, passed}
 use Rattle.sweep.specs.Sweep.{head_of, allowed, room_for, finish, sweep_with, terms_for, SweepAnswer}
 use Rattle.sweep.specs.GapSweep.{GapSweep, blanked, blanked_lent, gap_finish, gap_sweep_of, gap_sweep_in, gap_buffers, MarkedRan}
 use Rattle.symbology.proofs.GapRows.{gap_sizes}
@@ -229,34 +227,6 @@ module _ {scheme : Scheme} {file : List ℕ} {clock : ℕ} {G : Result GapSweep}
         told az cs ph ms r
         (i ∙ ap (λ z. then z λ _. sweep_with h d f) filled ∙ ap (λ y. sweep_with h y f) is ∙ ap (sweep_with h (accepted drawn_here.admitted.declared)) (sym drawn_here.figures))
         (a ∙ ap (λ r. lent r (λ p. p.picture.azimuths) az) drawn_here.is) now_codes laid now_marks
-
--- ---- the values, once the code has filled them
-
--- there is a row of them for each mark
-pub values_room : (fill : Result (List Float)) (ph : List Float) (n bins : ℕ) (ms : List ℕ) {ph' : List Float} → ph' ≡ lent fill (λ values. values) ph → n ≤ length ms → n * bins ≤ length ph
-    → length (take n ms) * bins ≤ length ph'
-values_room fill ph n bins ms {ph'} v m h = rw (length-take-le n ms m, v) (by fill)
-  where
-    by : (z : Result (List Float)) → n * bins ≤ length (lent z (λ values. values) ph)
-    by (accepted values) = omega (arith, h, length-append values (drop (length values) ph), length-drop (length values) ph)
-    by (refused x) = h
-
-module _ (fill : Result (List Float)) (said : Result Sweep) where
-  pub not_filled : {x : Refusal} (bins : ℕ) (marks : List ℕ) (ph : List Float) {ph' : List Float} → ◌≡◌ {A = Result (Unit {0})} (refused x) (then fill λ _. accepted tt) → ph' ≡ lent fill (λ values. values) ph
-      → (refused x ≡ then fill λ _. said) × (ph' ≡ blanked_lent fill bins marks ph)
-  not_filled {x} bins marks ph {ph'} e v = by fill e v
-    where
-      by : (z : Result (List Float)) → ◌≡◌ {A = Result (Unit {0})} (refused x) (then z λ _. accepted tt) → ph' ≡ lent z (λ values. values) ph → (refused x ≡ then z λ _. said) × (ph' ≡ blanked_lent z bins marks ph)
-      by (accepted values) e v = clash tt x e
-      by (refused y) e v = (ap refused (one_refusal e), v)
-
-  pub was_filled : (bins : ℕ) (marks : List ℕ) (ph : List Float) {ph' ph'' : List Float} {r : Result Sweep} → ◌≡◌ {A = Result (Unit {0})} (accepted tt) (then fill λ _. accepted tt) → ph' ≡ lent fill (λ values. values) ph
-      → ph'' ≡ blanked bins marks ph' → r ≡ said → (r ≡ then fill λ _. said) × (ph'' ≡ blanked_lent fill bins marks ph)
-  was_filled bins marks ph {ph'} {ph''} {r} e v b i = by fill e v
-    where
-      by : (z : Result (List Float)) → ◌≡◌ {A = Result (Unit {0})} (accepted tt) (then z λ _. accepted tt) → ph' ≡ lent z (λ values. values) ph → (r ≡ then z λ _. said) × (ph'' ≡ blanked_lent z bins marks ph)
-      by (accepted values) e v = (i, b ∙ ap (blanked bins marks) v)
-      by (refused y) e v = clash tt y (sym e)
 
 -- ---- one body
 

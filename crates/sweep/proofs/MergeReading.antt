@@ -30,7 +30,7 @@ use Rattle.symbology.proofs.Merging.{either_long}
 use Rattle.symbology.proofs.RowPlaces.{joined_long}
 use Rattle.symbology.proofs.SameFigures.{figures_are}
 use Rattle.sweep.specs.declared.plan.Head.{Head}
-use Rattle.sweep.specs.Sweep.{head_of, allowed, packets_for, terms_for, SweepAnswer}
+use Rattle.sweep.specs.Sweep.{head_of, allowed, packets_for, terms_for}
 use Rattle.sweep.specs.GapSweep.{GapSweep, gap_finish, gap_buffers, MarkedRan}
 use Rattle.sweep.specs.MergeSweep.{readied, merge_sweep_of}
 use Rattle.sweep.proofs.Parts.{block_start}

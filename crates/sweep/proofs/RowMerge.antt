@@ -7,14 +7,11 @@ use mathlib.Core.Bool.{Bool, true, false}
 use mathlib.Core.Logic.{◌⊎◌, inl, inr, ⊎_elim, ◌≢◌}
 use mathlib.Core.Path.{◌≡◌, refl, sym, ap, ap₂, ◌∙◌}
 use lib.ListN.{length, get_or}
-use lib.Dec.{eqb}
-use borrow.Author.Tests.{eq-eqb, eqb-true}
 use Rattle.std.proofs.lemmas.Slice.Eq.{bytes_eq-Decides}
 use Rattle.wire.specs.Refusal.{Refusal, kind, nat}
 use Rattle.wire.specs.Result.{Result, accepted, refused}
 use Rattle.wire.specs.Reading.{marked}
 use Rattle.wire.specs.Text.{same}
-use Rattle.wire.proofs.Codes.{both}
 use Rattle.wire.proofs.Gaps.{whole_row}
 use Rattle.wire.proofs.Results.{clash, one_value}
 use Rattle.symbology.specs.Merge.{disagree, agreed, either, merge_rows}

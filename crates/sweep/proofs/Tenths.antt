@@ -25,7 +25,7 @@ use Rattle.symbology.specs.declared.figures.Packet.{Packet}
 use Rattle.symbology.specs.declared.figures.Packet.TheVariants.{Packet16, PacketAf1f, Packet28}
 use Rattle.symbology.proofs.Widths.{OfBits}
 use Rattle.sweep.specs.declared.sweep.Sweep.{Sweep}
-use Rattle.sweep.specs.Sweep.{allowed, Accepted, finish, sweep_of, Buffers, read_into, Ran, SweepAnswer}
+use Rattle.sweep.specs.Sweep.{allowed, Accepted, finish, sweep_of, Buffers, read_into, Ran}
 use Rattle.sweep.specs.Tenths.{InTenths}
 use Rattle.sweep.proofs.Codes.{sweep_codes_fit}
 use Rattle.sweep.proofs.Parts.{block_start, parts, sizes}

@@ -15,10 +15,11 @@ use Rattle.scale.specs.Legacy.{levels_of}
 use Rattle.scale.specs.Pdb.{threshold_place, threshold_bytes}
 use Rattle.scale.specs.Physical.{level_of, scale_fields}
 use Rattle.scale.specs.declared.physical.Scheme.{Scheme}
+use Rattle.scale.specs.declared.pdb.Thresholds.{Thresholds}
 use Rattle.scale.proofs.Thresholds.{only_3, same_values, place_of, refused_too, Copying, Decoding, decoded}
 use Rattle.sweep.specs.declared.plan.Head.{Head}
 use Rattle.sweep.specs.declared.sweep.Sweep.{Sweep}
-use Rattle.sweep.specs.Sweep.{head_of, Accepted, sweep_of, Buffers, read_into, Ran, SweepAnswer}
+use Rattle.sweep.specs.Sweep.{head_of, Accepted, sweep_of, Buffers, read_into, Ran}
 use Rattle.sweep.proofs.Parts.{block_start, parts, sizes}
 use Rattle.sweep.proofs.Reading.{front_is}
 use Rattle.sweep.proofs.CodeRuns.{Call, Allowed, scheme, file, clock, body, old, new, call_runs}
@@ -75,10 +76,10 @@ legacy_refused post file clock b na nc np h e x none = (
 abbrev pub cells : Sweep → ℕ
 cells s = s.figures.n_radials * s.figures.n_bins
 
--- what an accepted run leaves, by the levels of a copy
+-- what an accepted run leaves, by the levels of a copy, whose place is there
 run_values : (post : Float) (file : List ℕ) (clock : ℕ) (b : List ℕ) (old new : Buffers) (s : Sweep) → Ran (Scheme.Legacy post) file clock b old new (Std.Ok s)
     → (header : ℕ) → message_header file ≡ accepted header
-    → take (cells s) new.physical ≡ map (valued_by file (header + 18) post) (take (cells s) new.codes)
+    → (at : ℕ) × (threshold_place file (header + 18) ≡ accepted at) × (take (cells s) new.physical ≡ map (valued_by file (header + 18) post) (take (cells s) new.codes))
 run_values post file clock b old new s ran header is =
     through (read_into (Scheme.Legacy post) file clock b old) _ s (sym ran.answered) λ p acc e.
     let same : p.sweep ≡ s = cc in
@@ -88,18 +89,24 @@ run_values post file clock b old new s ran header is =
     let cs : take (cells s) new.codes ≡ p.codes =
     front_is (cells s) p.codes old.codes (ran.codes ∙ ap (λ r. lent r (λ q. q.codes) old.codes) acc) (long.codes ∙ ap cells same) in
     let ph : take (cells s) new.physical ≡ p.physical =
-    front_is (cells s) p.physical old.physical (ran.physical ∙ ap (λ r. lent r (λ q. q.physical) old.physical) acc) (long.physical ∙ ap cells same) in
-    ph ∙ t.values ∙ ap (λ (k : ℕ). map (valued_by file (k + 18) post) p.codes) n ∙ ap (map (valued_by file (header + 18) post)) (sym cs)
+    front_is (cells s) p.physical old.physical (ran.physical ∙ ap (λ r. lent r (λ q. q.physical) old.physical) acc) (long.physical ∙ ap cells same) in (
+      t.at,
+      subst (λ (k : ℕ). threshold_place file (k + 18) ≡ accepted t.at) n t.there,
+      ph ∙ t.values ∙ ap (λ (k : ℕ). map (valued_by file (k + 18) post) p.codes) n ∙ ap (map (valued_by file (header + 18) post)) (sym cs),
+    )
 
--- A legacy call of `read_sweep` that is accepted; one of `threshold_data` on the same file and its block; one of `decode_legacy16` on those 32
--- bytes with the same post-scale: each value is the level that the code names.
+-- A legacy call of `read_sweep` that is accepted; one of `threshold_data` on the same file and its block; one of `decode_legacy16` on the 32
+-- bytes that it gives, with the same post-scale: each value is the level that the code names.
 pub legacy_calls : (c : Call) → Allowed c → (s : Sweep) → c.answer ≡ Std.Ok s → (t : Copying) (d : Decoding)
-    → (bytes : List ℕ) → t.answer ≡ Std.Ok bytes → d.given.0.now ≡ bytes → scheme c ≡ Scheme.Legacy d.given.1.0 → t.given.0.now ≡ file c
+    → ((copy : Thresholds) → t.answer ≡ Std.Ok copy → d.given.0.now ≡ copy.bytes) → scheme c ≡ Scheme.Legacy d.given.1.0 → t.given.0.now ≡ file c
     → (header : ℕ) → message_header (file c) ≡ accepted header → t.given.1.0 ≡ header + 18
     → take (cells s) (new c).physical ≡ map (level_of d.answer) (take (cells s) (new c).codes)
-legacy_calls c allowed s is t d bytes gave handed schemes files header there block =
+legacy_calls c allowed s is t d handed schemes files header there block =
+    let ran =
     run_values d.given.1.0 (file c) (clock c) (body c) (old c) (new c) s
     (subst (λ (h : Scheme). Ran h (file c) (clock c) (body c) (old c) (new c) (Std.Ok s)) schemes
-    (subst (Ran (scheme c) (file c) (clock c) (body c) (old c) (new c)) is (call_runs c allowed))) header there
+    (subst (Ran (scheme c) (file c) (clock c) (body c) (old c) (new c)) is (call_runs c allowed))) header there in
+    let placed : threshold_place t.given.0.now t.given.1.0 ≡ accepted ran.0 = ap₂ threshold_place files block ∙ ran.1 in
+    ran.2
     ∙ ap (λ (l : List Float). map (level_of l) (take (cells s) (new c).codes))
-    (ap₂ (λ (f : List ℕ) (n : ℕ). levels_of (threshold_bytes f (threshold_place f n)) 0 d.given.1.0) (sym files) (sym block) ∙ decoded t d bytes gave handed)
+    (ap₂ (λ (f : List ℕ) (n : ℕ). levels_of (threshold_bytes f (threshold_place f n)) 0 d.given.1.0) (sym files) (sym block) ∙ decoded t d handed placed)

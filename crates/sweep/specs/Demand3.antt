@@ -99,7 +99,7 @@ pub record SameLengths (one other : Buffers) : Type 0 where
   pub codes : length other.codes ≡ length one.codes
   pub physical : length other.physical ≡ length one.physical
 
--- The first run read b, accepted it with s and left `new`; the second read b', answered `answer'` and left `new'`.
+-- The first run read b, accepted it with s and left `new`; the second read b', answered `said'` and left `new'`.
 pub record TwoRuns (scheme : Scheme) (file b b' : List ℕ) (s : Sweep) (new new' : Buffers) (said' : SweepAnswer) : Type 0 where
   pub refusal : Refuses s.figures b b' (answer said')
   pub otherwise : AllMake s.figures b b'

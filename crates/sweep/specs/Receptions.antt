@@ -63,7 +63,7 @@ pub record MergedAlike (scheme : Scheme) (file : List ℕ) (clock : ℕ) (na nc 
 
 -- ---- for two runs of the code, of which the first reads b without gaps and the second merges b₁ and b₂
 
--- The first run accepted b with s and left `new`; the second answered `answer'`, and left `new'` where `old'` was.
+-- The first run accepted b with s and left `new`; the second answered `said'`, and left `new'` where `old'` was.
 pub record MergeRuns (b b₁ b₂ : List ℕ) (s : Sweep) (new : Buffers) (old' new' : GapBuffers) (said' : SweepAnswer) : Type 0 where
   -- refused exactly when some changed data make a row of other codes
   pub exactly : ((e : Level3DecodeError) × (said' ≡ Std.Err e)) ↔ ((r : ℕ) × (r < s.figures.n_radials) × Other s.figures b b₁ b₂ r)

@@ -90,7 +90,7 @@ pub record SameRoom (one : Buffers) (other : GapBuffers) : Type 0 where
   pub codes : length other.codes ≡ length one.codes
   pub physical : length other.physical ≡ length one.physical
 
--- The first run read b, accepted it with s and left `new`; the second read b' with gaps, answered `answer'` and left `new'`.
+-- The first run read b, accepted it with s and left `new`; the second read b' with gaps, answered `said'` and left `new'`.
 pub record GapRuns (scheme : Scheme) (file b b' : List ℕ) (s : Sweep) (new : Buffers) (new' : GapBuffers) (said' : SweepAnswer) : Type 0 where
   pub answer : said' ≡ Std.Ok s
   pub azimuths : take s.figures.n_radials new'.azimuths ≡ take s.figures.n_radials new.azimuths
@@ -102,7 +102,7 @@ pub record SameFront (f : Figures) (new : Buffers) (new' : GapBuffers) : Type 0 
   pub codes : take (f.n_radials * f.n_bins) new'.codes ≡ take (f.n_radials * f.n_bins) new.codes
   pub physical : take (f.n_radials * f.n_bins) new'.physical ≡ take (f.n_radials * f.n_bins) new.physical
 
--- The two runs read the same body: the first answered `answer` and left `new`, the second, with gaps, `answer'` and `new'`.
+-- The two runs read the same body: the first answered `said` and left `new`, the second, with gaps, `said'` and `new'`.
 pub record OrdinaryRuns (said said' : SweepAnswer) (new : Buffers) (new' : GapBuffers) : Type 0 where
   pub exactly : ((s : Sweep) × (said' ≡ Std.Ok s) × NoneMarked s.figures new'.marks) ↔ ((s : Sweep) × (said ≡ Std.Ok s))
   pub equal : (s s' : Sweep) → said ≡ Std.Ok s → said' ≡ Std.Ok s' → NoneMarked s'.figures new'.marks

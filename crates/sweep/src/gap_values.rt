@@ -11,10 +11,11 @@ use scale::physical::Scheme;
 use symbology::figures::Figures;
 use wire::error::Level3DecodeError;
 
-// The mark of a row that is no gap.
+// The mark of a row that is no gap. Marks are bytes, as C lends them.
 const WHOLE: u8 = 0;
 
 // NaN at every place of a row that is marked.
+#[tactic(auto, unfolding(crate::specs::GapSweep::blanked_row))]
 fn blank_if(mark: u8, row: &mut [f32])
     ensures { row.new ≡ blanked_row mark row.old }
 {
@@ -28,6 +29,7 @@ fn blank_gaps(marks: &[u8], n_bins: usize, physical: &mut [f32])
     requires { length marks.now * n_bins ≤ length physical.old }
     ensures { physical.new ≡ blanked n_bins marks.now physical.old }
 {
+    // Counted by hand: no clause tells what is written through `chunks_mut`.
     let mut cell: usize = 0;
     for mark in marks {
         let end = cell + n_bins;
@@ -37,6 +39,7 @@ fn blank_gaps(marks: &[u8], n_bins: usize, physical: &mut [f32])
 }
 
 // The values of the codes, NaN over the rows that are marked, and the answer.
+#[tactic(auto, unfolding(scale::specs::Physical::declared_scale, scale::specs::Physical::fill_of))]
 pub fn fill_values(
     file: &[u8],
     scheme: Scheme,

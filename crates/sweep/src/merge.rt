@@ -1,4 +1,5 @@
 // Two receptions, one picture. Order: the first body's reading with gaps up to 36, the second's, 43, 44, 36.
+// The parameters are those of the C entries, one by one.
 ghost use Rattle.sweep.specs.GapSweep.{gap_buffers};
 ghost use Rattle.sweep.specs.MergeSweep.{MergeRan};
 

@@ -1,4 +1,5 @@
 // What is settled before the body is read: what the file says, and the terms on which the body is read.
+// The parameters are those of the C entries, one by one.
 ghost use Rattle.std.specs.Prelude.{◌≡◌};
 ghost use Rattle.wire.specs.Result.{answer};
 ghost use Rattle.sweep.specs.Sweep.{head_of, packets_for, terms_for};

@@ -1,4 +1,5 @@
 // The sweep reading. Order: token, header, fields, scan time (4, 6, 5), scale fields, symbology, 10, 9, 36.
+// The parameters are those of the C entries, one by one.
 ghost use Rattle.std.specs.Prelude.{◌≡◌};
 ghost use Rattle.scale.specs.Physical.{declared_scale};
 ghost use Rattle.wire.specs.Result.{answer};

@@ -1,5 +1,6 @@
 // The sweep reading with gaps: a radial whose data make no row leaves a gap in the picture, and a mark. Order: as the sweep reading's; 36
 // covers the mark buffer, after the physical one.
+// The parameters are those of the C entries, one by one.
 ghost use Rattle.sweep.specs.GapSweep.{gap_buffers, GapRan};
 
 use crate::sweep::Sweep;

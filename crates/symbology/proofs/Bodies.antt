@@ -34,7 +34,7 @@ plots_as m r s e h = rw e h
 plotted : {m : Bool} {f : Figures} {at next from to : ℕ} {body : List ℕ} {R R' : Result (Given Sweep)} (p : Planned m f at next (slice from to body) R) (end : ℕ) → from ≤ to → to ≤ length body
     → R' ≡ accepted (record { value = record { figures = f; azimuths = p.radials.value }; next = end; rows = p.radials.rows }) → Plotted m f from to at body R'
 plotted p end o i w =
-    record { radials = p.radials; end = end; small = p.small; cells = p.cells; ordered = o; inside = i; radials_are = p.radials_are; whole = w }
+    record { radials = p.radials; end = end; ordered = o; inside = i; radials_are = p.radials_are; whole = w }
 
 -- ---- packets 16 and AF1F
 

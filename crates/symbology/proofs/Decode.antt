@@ -1,14 +1,12 @@
 -- What a plan and the terms say of a body's picture, a law for each answer of the code. Assumes nothing.
-use Rattle.std.proofs.Common.{◌≡◌, ℕ, ◌-◌, ◌*◌, ◌≤◌, Bool, true, false, not, ltb, List, [], length, take, drop, ℤ, pos, sym, refl, ap, ◌∙◌, subst, ltb-false}
-use lib.Signed.{lt_z}
+use Rattle.std.proofs.Common.{◌≡◌, ℕ, ◌-◌, ◌*◌, ◌≤◌, Bool, true, false, not, ltb, List, [], length, take, drop, sym, refl, ap, ◌∙◌, ltb-false}
 use lib.Ieee.{Float}
 use Rattle.wire.specs.Refusal.{Refusal, kind, refusal_of}
 use Rattle.wire.specs.Result.{Result, accepted, answer, refused, refuse, then, lent}
 use Rattle.wire.specs.Reading.{run, Given}
 use Rattle.wire.proofs.Readings.{part_slice}
-use Rattle.xdr.specs.Xdr.{at_least0}
 use Rattle.wire.specs.declared.error.Level3DecodeError.{Level3DecodeError}
-use Rattle.symbology.specs.Symbology.{Sweep, body_short, symbology}
+use Rattle.symbology.specs.Symbology.{Sweep, symbology}
 use Rattle.symbology.specs.Answers.{step_of, Picture, joined, picture_of, asked, room_in, admit, passing, decode_for, figures_in, Decodes}
 use Rattle.symbology.specs.Merge.{usable}
 use Rattle.symbology.specs.Walk.{in_mode, any_walk, Plotted, on_terms}
@@ -16,17 +14,6 @@ use Rattle.symbology.specs.declared.figures.Figures.{Figures}
 use Rattle.symbology.specs.declared.figures.Terms.{Terms}
 use Rattle.std.specs.Prelude as Std
 use Rattle.wire.proofs.Results.{one_value, through, passed}
-
--- ---- 23, of a length that the code holds as y
-
-module _ {y z : ℤ} (e : y ≡ z) (room : ℕ) where
-  pub short_below : lt_z y (pos 0) ≡ true → true ≡ body_short z room
-  unfolding body_short
-  short_below h = rw (← e) (simp h)
-
-  pub short_over : {n : ℕ} → lt_z y (pos 0) ≡ false → n ≡ at_least0 y → ltb room n ≡ body_short z room
-  unfolding body_short
-  short_over h k = rw (k, ← e) (simp h)
 
 -- the figures of what was read
 abbrev pub figures_read : Result (Given Sweep) → Result Figures
@@ -86,8 +73,6 @@ module _ (test : Figures → Result (Unit {0})) (R : Result (Given Sweep)) where
         record {
           radials = p.radials;
           end = p.end;
-          small = p.small;
-          cells = p.cells;
           ordered = p.ordered;
           inside = p.inside;
           radials_are = p.radials_are;

@@ -1,9 +1,10 @@
 -- Bytes put together with the first as the lowest, and what that says of the number that they stand for. Assumes nothing.
-use Rattle.std.proofs.Common.{◌≡◌, ℕ, zero, suc, ◌+◌, ◌*◌, ◌/◌, ◌%◌, ◌<◌, ◌≤◌, Bool, ◌&&◌, eqb, List, [], ◌∷◌, length, get_or, refl, sym, ap, ◌∙◌, arith, ne_eqb, le-leb}
+use Rattle.std.proofs.Common.{◌≡◌, ℕ, zero, suc, ◌+◌, ◌*◌, ◌/◌, ◌%◌, ◌<◌, ◌≤◌, Bool, ◌&&◌, eqb, List, [], ◌∷◌, map, length, get_or, refl, sym, ap, ◌∙◌, arith, ne_eqb, le-leb}
 use lib.Bits.{bit_or, and_le_r, or_zero_l, or_add_and, or_mod}
 use borrow.Author.Tests.{lt-leb}
 use Rattle.std.specs.Int.{w32, from_le_bytes}
 use Rattle.std.specs.Simd.{first_chunks}
+use Rattle.wire.specs.Bytes.{u16_at}
 use Rattle.symbology.specs.Rows.{is_level, words}
 
 -- the two upper bytes are 0
@@ -43,3 +44,30 @@ none_set (suc a) b = ne_eqb (bit_or (suc a) b) 0 (λ e. omega (arith, or_add_and
 
 pub both_clear : (a b : ℕ) → upper_clear (bit_or a b) ≡ upper_clear a && upper_clear b
 both_clear a b = ap (λ (n : ℕ). eqb n 0) (or_mod a b 16) ∙ none_set (a % 65536) (b % 65536)
+
+-- ---- halfwords with their bytes in the other order
+
+abbrev pub swap : ℕ → ℕ
+swap h = h % 256 * 256 + h / 256
+
+-- the upper half of four bytes is the lower halfword with its bytes in the other order
+halves : (a b c d : ℕ) → a < 256 → b < 256 → c < 256 → d < 256
+    → ((a + b * 256 + c * 65536 + d * 16777216) / 65536 ≡ swap (c * 256 + d)) × ((a + b * 256 + c * 65536 + d * 16777216) / 65536 < 65536)
+halves a b c d ha hb hc hd = (omega arith, omega arith)
+
+pub raw_half : (s : List ℕ) (at : ℕ) {w z : ℕ} → ((i : ℕ) → get_or s i 0 < 256) → z ≡ 0
+    → w ≡ get_or s at 0 + get_or s (at + 1) 0 * 256 + get_or s (at + 2) 0 * 65536 + get_or s (at + 3) 0 * 16777216
+    → ((w + z) / 65536 ≡ swap (u16_at s (at + 2))) × ((w + z) / 65536 < 65536)
+unfolding u16_at
+raw_half s at {w} {z} small none h =
+    let e : at + 3 ≡ at + 2 + 1 = omega arith in
+    let same : w + z ≡ w = omega (arith, none) in
+    rw (same, h, e) (halves _ _ _ _ (small at) (small (at + 1)) (small (at + 2)) (small (at + 2 + 1)))
+
+-- swapped twice, a halfword is as it was
+swap_back : (h : ℕ) → h ≤ 65535 → swap (swap h) ≡ h
+swap_back h l = omega arith
+
+pub all_back : (s : List ℕ) → ((i : ℕ) → get_or s i 0 ≤ 65535) → map swap (map swap s) ≡ s
+all_back [] h = refl
+all_back (x ∷ s) h = rw (swap_back x (h 0), all_back s (λ i. h (suc i)))

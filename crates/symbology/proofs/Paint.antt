@@ -1,13 +1,12 @@
 -- The cells of AF1F runs, written block over block: the first gate places are written, and what is left of the cells makes the rest of
 -- the row. Assumes nothing.
 use Rattle.std.proofs.Common.{◌≡◌, ℕ, ◌+◌, ◌-◌, ◌<◌, ◌≤◌, min, zero, suc, List, ◌∷◌, ◌++◌, map, length, get_or, take, drop, replicate, sym, refl, ap, ◌∙◌, append_assoc, append-nil, arith, length-append, length-drop, length-take, length-take-le, take_all, take_at}
-use native.Mathlib.Nat.{sub-zero}
 use lib.ListN.{length-replicate, replicate-append-replicate}
 use lib.Seq.{take-append-add, take-append-le}
 use borrow.Rule.Slice.PartMut.{put_mid}
 use mathlib.Core.List.{map-append}
 use Rattle.symbology.specs.Rows.{run_of, colour_of, reach, cells}
-use Rattle.symbology.proofs.RunLoops.{left_cons, Reached, reached_first, reached_end, reached_over, reached_turn}
+use Rattle.symbology.proofs.RunLoops.{left_cons, Reached, reached_end, reached_over, reached_turn}
 
 -- the first n of m times v and more
 take_same : {A : Type 0} (n m : ℕ) (v : A) (l : List A) → n ≤ m → take n (replicate m v ++ l) ≡ replicate n v

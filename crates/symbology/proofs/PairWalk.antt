@@ -1,7 +1,6 @@
 -- Two walks over the radials side by side: one radial of each, and the invariant of the comparison. Assumes nothing.
-use Rattle.std.proofs.Common.{Option, Some, None, ◌≡◌, ℕ, zero, suc, ◌+◌, ◌-◌, ◌<◌, ◌≤◌, Bool, true, false, cond, not, ◌&&◌, eqb, List, [], ◌∷◌, length, take, drop, sym, refl, ap, ◌∙◌, add-one, arith, eq-eqb, ne_eqb}
+use Rattle.std.proofs.Common.{Option, Some, None, ◌≡◌, ℕ, zero, suc, ◌+◌, ◌-◌, ◌<◌, ◌≤◌, Bool, true, false, not, ◌&&◌, List, [], ◌∷◌, length, take, drop, sym, refl, ap, ◌∙◌, add-one, arith}
 use lib.Ieee.{Float}
-use borrow.Author.Tests.{not-true, not-false}
 use Rattle.wire.specs.Refusal.{Refusal, kind, nat}
 use Rattle.wire.specs.Result.{Result, accepted, refused, refuse}
 use Rattle.wire.specs.Reading.{Given, run, marked}
@@ -71,21 +70,9 @@ module _ (n : ℕ) where
 
 -- the same as the code has it: the row that was written first is as long
 module _ (packet : Packet) (n r : ℕ) (a b : List ℕ) where
-  pub first_written : {mark : ℕ} {row : List ℕ} → mark ≡ mark_of (marked (row_of packet n r a)) → row ≡ shown n (marked (row_of packet n r a)) → mark ≡ 0
-      → (0 ≡ mark_of (either (marked (row_of packet n r a)) (marked (row_of packet n r b)))) × (row ≡ shown n (either (marked (row_of packet n r a)) (marked (row_of packet n r b))))
-  first_written = row_first n (row_of packet n r a) (row_of packet n r b)
-
   module _ (enough : Enough packet n (length a)) {row : List ℕ} (e : row ≡ shown n (marked (row_of packet n r a))) where
     as_long : length row ≡ n
     as_long = ap length e ∙ shown_long n (row_of packet n r a) (λ codes h. (full_row packet n r a codes enough h).2)
-
-    pub still_enough : Enough packet n (length b) → Enough packet (length row) (length b)
-    still_enough h = rw as_long h
-
-    pub second_written : {mark mark' : ℕ} {row' : List ℕ} → mark ≡ mark_of (marked (row_of packet n r a)) → (mark ≡ 0 → ⊥)
-        → mark' ≡ mark_of (marked (row_of packet (length row) r b)) → row' ≡ shown (length row) (marked (row_of packet (length row) r b))
-        → (mark' ≡ mark_of (either (marked (row_of packet n r a)) (marked (row_of packet n r b)))) × (row' ≡ shown n (either (marked (row_of packet n r a)) (marked (row_of packet n r b))))
-    second_written m z m' k = row_second n (row_of packet n r a) (row_of packet n r b) m z (rw as_long at m') (rw as_long at k)
 
 -- ---- one radial of each
 

@@ -1,9 +1,9 @@
 -- Packet 28: a component is its head and its radials; the payload is its product block and the list of components. Assumes nothing.
-use Rattle.std.proofs.Common.{◌≡◌, ℕ, zero, suc, ◌-◌, ◌*◌, ◌<◌, ◌≤◌, Bool, true, false, cond, not, eqb, List, [], ◌∷◌, length, ℤ, pos, negsuc, sym, refl, ap, ◌∙◌, subst, append-nil, arith, ltb-false, ne_eqb}
+use Rattle.std.proofs.Common.{◌≡◌, ℕ, zero, suc, ◌-◌, ◌<◌, ◌≤◌, Bool, true, false, cond, not, eqb, List, [], ◌∷◌, length, ℤ, pos, negsuc, sym, refl, ap, ◌∙◌, append-nil, arith, ltb-false, ne_eqb}
 use mathlib.Core.Path.{fun_ext}
 use lib.Signed.{le_z, lt_z}
 use lib.Ieee.{Float}
-use Rattle.wire.specs.Refusal.{Refusal, refusal_of, kind, nat}
+use Rattle.wire.specs.Refusal.{Refusal, kind, nat}
 use Rattle.wire.specs.declared.error.Level3DecodeError.{Level3DecodeError}
 use Rattle.wire.specs.Result.{Result, accepted, refused, then}
 use Rattle.wire.specs.Reading.{Read, Flat, give, ◌>>=◌, ◌>>◌, remaining, refuse_if, run, Given, Ended, passed, halted, onward, reached, walk}
@@ -15,7 +15,7 @@ use Rattle.xdr.specs.Xdr.{pass, at_least0, pointer, counted, further, elements, 
 use Rattle.xdr.proofs.Plains.{plain_pass, plain_int, plain_float, plain_string, plain_parameter, plain_counted, plain_list_head}
 use Rattle.symbology.specs.Symbology.{Sweep, product_block, xdr_radials, component_head, component, only, payload}
 use Rattle.symbology.specs.declared.generic.Gates28.{Gates28}
-use Rattle.symbology.specs.Walk.{in_mode, any_walk, only_whole, listed, position, sweep_from, Planned, Plans}
+use Rattle.symbology.specs.Walk.{in_mode, radials_by, only_whole, listed, position, sweep_from, Planned, Plans}
 use Rattle.symbology.specs.declared.figures.Figures.{Figures}
 use Rattle.wire.proofs.Results.{one_value}
 use Rattle.symbology.specs.declared.spans.Plan.{Plan}
@@ -118,18 +118,15 @@ accepted_run {W} {A} t s p {n} h = go (walk t s p) refl h
 pub plans_as : (m : Bool) (r : Std.Result Plan Level3DecodeError) (s : List ℕ) {R Q : Result (Given Sweep)} → R ≡ Q → Plans m r s Q → Plans m r s R
 plans_as m r s e h = rw e h
 
-abbrev radials_of_lem : Figures → Flat (List Float)
-radials_of_lem f = any_walk f.packet f.n_radials f.n_bins f.n_radials 0
-
 module _ (m : Bool) (f : Figures) (s : List ℕ) (at : ℕ) where
-  pub plan_refused : {x : Refusal} → refused x ≡ position (walk (in_mode m (radials_of_lem f)) s at) → refused x ≡ sweep_from f (run (in_mode m (radials_of_lem f)) s at)
-  plan_refused h = ap (sweep_from f) (refused_run (in_mode m (radials_of_lem f)) s at h)
+  pub plan_refused : {x : Refusal} → refused x ≡ position (walk (in_mode m (radials_by f)) s at) → refused x ≡ sweep_from f (run (in_mode m (radials_by f)) s at)
+  plan_refused h = ap (sweep_from f) (refused_run (in_mode m (radials_by f)) s at h)
 
-  pub plan_value : {next : ℕ} → (f.n_radials ≤ 100000) × (f.n_radials * f.n_bins ≤ 4000000) → accepted next ≡ position (walk (in_mode m (radials_of_lem f)) s at)
-      → Planned m f at next s (sweep_from f (run (in_mode m (radials_of_lem f)) s at))
-  plan_value small h =
-      let g = accepted_run (in_mode m (radials_of_lem f)) s at h in
-      record { radials = g.0; small = small.0; cells = small.1; radials_are = g.1.0; next_is = g.1.1; whole = ap (sweep_from f) g.1.0 }
+  pub plan_value : {next : ℕ} → accepted next ≡ position (walk (in_mode m (radials_by f)) s at)
+      → Planned m f at next s (sweep_from f (run (in_mode m (radials_by f)) s at))
+  plan_value h =
+      let g = accepted_run (in_mode m (radials_by f)) s at h in
+      record { radials = g.0; radials_are = g.1.0; next_is = g.1.1; whole = ap (sweep_from f) g.1.0 }
 
 -- ---- the list of components
 
@@ -345,7 +342,7 @@ module _ (m : Bool) (s : List ℕ) (p n : ℕ) {f : Figures} {at next : ℕ} (k 
   pub alone_whole : {rest : ℕ} → n ≡ 1 → rest ≡ length s - next → rest ≡ 0 → Planned m f at next s (run (in_mode m (listed n)) s p)
   alone_whole {rest} h l z =
       let e : length s - k.radials.next ≡ 0 = rw k.next_is (sym l ∙ z) in
-      record { radials = k.radials; small = k.small; cells = k.cells; radials_are = k.radials_are; next_is = k.next_is; whole = no_more m s p h k.whole e }
+      record { radials = k.radials; radials_are = k.radials_are; next_is = k.next_is; whole = no_more m s p h k.whole e }
 
   pub list_stops : {x : Refusal} → 1 < n → refused x ≡ position (walk (in_mode m (further component (n - 1))) s next) → refused x ≡ run (in_mode m (listed n)) s p
   list_stops h l = further_refused m s p n h k.whole (l ∙ ap (λ q. position (walk (in_mode m (further component (n - 1))) s q)) (sym k.next_is))

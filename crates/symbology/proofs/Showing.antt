@@ -55,25 +55,6 @@ module _ (packet : Packet) (bins r : ℕ) (bytes : List ℕ) where
 
 -- ---- one radial
 
--- in the two modes
-module _ (packet : Packet) (bins r : ℕ) (bytes : List ℕ) {m : Bool} {mark : ℕ} {row : List ℕ} where
-  pub cells_shown : m ≡ true → (mark ≡ mark_of (marked (row_of packet bins r bytes))) × (row ≡ shown bins (marked (row_of packet bins r bytes)))
-      → (mark ≡ mark_from m packet bins r bytes) × (row ≡ cells_from m packet bins r bytes)
-  unfolding mark_from cells_from
-  cells_shown e h = rw e h
-
-  pub cells_made : m ≡ false → mark ≡ 0 → row ≡ codes_of packet bins bytes → (mark ≡ mark_from m packet bins r bytes) × (row ≡ cells_from m packet bins r bytes)
-  unfolding mark_from cells_from
-  cells_made e h k = rw e (h, k)
-
-pub ready_shown : (packet : Packet) (bins : ℕ) (bytes : List ℕ) {m : Bool} → m ≡ true → Ready m packet bins bytes → Enough packet bins (length bytes)
-unfolding Ready
-ready_shown packet bins bytes e h = rw e at h
-
-pub ready_made : (packet : Packet) (bins : ℕ) (bytes : List ℕ) {m : Bool} → m ≡ false → Ready m packet bins bytes → FullRow packet bins bytes
-unfolding Ready
-ready_made packet bins bytes e h = rw e at h
-
 module _ (packet : Packet) (radials bins r : ℕ) (s : List ℕ) (p : ℕ) {a : Float} {from to : ℕ} (f : Found packet radials bins r s p a from to) where
   pub cells_ready : (m : Bool) → Accepted (run (in_mode m (any_radial packet radials bins r)) s p) → Ready m packet bins (take (to - from) (drop from s))
   unfolding in_mode Ready
@@ -179,13 +160,3 @@ module _ (packet : Packet) (radials bins : ℕ) (s : List ℕ) where
   unfolding marks_in
   marks_end true inv h = marking_end packet radials bins s (inv.shown refl) h
   marks_end false inv h = inv.kept refl
-
--- one mark
-module _ {m : Bool} (marks : List ℕ) (r mark : ℕ) {marks' : List ℕ} where
-  pub mark_put : m ≡ true → marks' ≡ set marks r mark → marks' ≡ put_mark m marks r mark
-  unfolding put_mark
-  mark_put e h = rw e h
-
-  pub mark_left : m ≡ false → marks' ≡ marks → marks' ≡ put_mark m marks r mark
-  unfolding put_mark
-  mark_left e h = rw e h

@@ -1,5 +1,5 @@
 -- The walk over the radials, one for all packets: what the code's answers say of it. Assumes nothing.
-use Rattle.std.proofs.Common.{Option, Some, None, ◌≡◌, ℕ, suc, ◌+◌, ◌-◌, ◌*◌, ◌<◌, ◌≤◌, Bool, true, false, ◌||◌, eqb, ltb, List, [], ◌∷◌, length, take, drop, sym, refl, ap, ◌∙◌, add-one, arith, ltb-false, eqb-true}
+use Rattle.std.proofs.Common.{Some, ◌≡◌, ℕ, suc, ◌+◌, ◌-◌, ◌*◌, ◌<◌, ◌≤◌, Bool, true, false, ◌||◌, eqb, ltb, List, [], ◌∷◌, length, take, drop, sym, refl, ap, ◌∙◌, add-one, arith, ltb-false, eqb-true}
 use lib.Seq.{slice}
 use lib.Ieee.{Float}
 use Rattle.wire.specs.Bytes.{u16_at}
@@ -195,6 +195,9 @@ module _ (m : Bool) (packet : Packet) (radials bins : ℕ) (s : List ℕ) where
 
       pub checked_stop : {x : Refusal} → c ≡ refused x → refused x ≡ whole
       checked_stop k = rw k at e ∙ inv.left
+
+    pub checked_all : radials ≤ r → walk_from m packet radials bins s radials at ≡ whole
+    checked_all h = let e : r ≡ radials = omega (arith, inv.number) in rw e at inv.left
 
     pub checked_end : radials ≤ r → accepted at ≡ whole
     unfolding any_walk walk

@@ -1,5 +1,5 @@
 -- Packet 28: a radial's frame, as the code goes through its items. Assumes nothing.
-use Rattle.std.proofs.Common.{◌≡◌, ℕ, zero, suc, ◌+◌, ◌-◌, ◌*◌, ◌≤◌, Bool, true, false, cond, not, ◌&&◌, Option, Some, eqb, ltb, List, [], ◌∷◌, length, ℤ, pos, sym, refl, ap, ◌∙◌, arith, ltb-false, le-ltb, lt-ltb, eq-eqb, ne_eqb, eqb-true, ◌⊎◌, inl, inr, ◌<◌}
+use Rattle.std.proofs.Common.{◌≡◌, ℕ, zero, suc, ◌+◌, ◌-◌, ◌*◌, ◌≤◌, Bool, true, false, cond, not, ◌&&◌, Option, Some, eqb, ltb, List, [], ◌∷◌, length, ℤ, pos, sym, refl, ap, ◌∙◌, arith, ltb-false, eqb-true}
 use lib.Ieee.{Float}
 use lib.Signed.{le_z}
 use borrow.Author.Tests.{not-false}
@@ -17,38 +17,7 @@ use Rattle.xdr.specs.Cursor.{read_at, Leaves}
 use Rattle.xdr.specs.declared.xdr.XdrCursor.{XdrCursor}
 use Rattle.std.specs.Prelude as Std
 
--- what the tests after the six items come to
-module _ {own own' : ℤ} (same : own' ≡ own) (radials r : ℕ) (expected : Option ℕ) (declared p : ℕ) where
-  abbrev bins : ℕ
-  bins = at_least0 own
-
-  abbrev Is : Ended (Unit {0}) → Type 0
-  Is e = e ≡ frame_tested radials r own expected declared p
-
-  pub is_29 : {x : Refusal} → le_z own' (pos 0) ≡ true → x ≡ kind 29 (nat radials ∷ whole own' ∷ []) → Is (halted x p)
-  unfolding frame_tested
-  is_29 t e = rw (← same, t) (ap (λ y. halted y p) e)
-
-  module _ (positive : le_z own' (pos 0) ≡ false) {n : ℕ} (n_is : n ≡ at_least0 own') {other : ℕ} (other_is : other ≡ expected_of expected n) where
-    pub is_31 : (n ≡ other → ⊥) → Is (halted (kind 31 (nat r ∷ nat n ∷ nat other ∷ [])) p)
-    unfolding frame_tested
-    is_31 t = rw (← same, ← n_is, ← other_is, positive, ne_eqb _ _ t) refl
-
-    module _ (alike : n ≡ other) where
-      pub is_32 : (declared ≡ n → ⊥) → Is (halted (kind 32 (nat r ∷ nat declared ∷ nat n ∷ [])) p)
-      unfolding frame_tested
-      is_32 t = rw (← same, ← n_is, ← other_is, positive, eq-eqb _ _ alike, ne_eqb _ _ t) refl
-
-      module _ (whole_length : declared ≡ n) where
-        pub is_33 : (eqb r 0 && ltb 4000000 (radials * n)) ≡ true → Is (halted (kind 33 (nat radials ∷ nat n ∷ nat (radials * n) ∷ nat 4000000 ∷ [])) p)
-        unfolding frame_tested
-        is_33 t = rw (← same, ← n_is, ← other_is, positive, eq-eqb _ _ alike, eq-eqb _ _ whole_length, t) refl
-
-        pub all_passed : (eqb r 0 && ltb 4000000 (radials * n)) ≡ false → Is (passed tt p)
-        unfolding frame_tested
-        all_passed t = rw (← same, ← n_is, ← other_is, positive, eq-eqb _ _ alike, eq-eqb _ _ whole_length, t) refl
-
--- and that they are those of the reading, one after another, before what follows them
+-- The tests after the six items are those of the reading, one after another, before what follows them.
 abbrev fine : ℕ → Ended (Unit {0})
 fine p = passed tt p
 
@@ -83,14 +52,6 @@ module _ {B : Type 0} (radials r : ℕ) (own : ℤ) (expected : Option ℕ) (n :
   pub tests_on : {c c' : XdrCursor} {r' : Std.Result B Level3DecodeError} → passed tt c.pos ≡ frame_tested radials r own expected n c.pos → Leaves (read_at u c) r' c c'
       → Leaves (read_at Tested c) r' c c'
   tests_on {c} h k = record { answered = k.answered ∙ sym (tests_are c.buf.now c.pos ∙ ap (λ y. onward y (λ _ p. walk u c.buf.now p)) (sym h)); kept = k.kept }
-
--- 33 is of the first radial alone
-pub large_grid : (r cells : ℕ) → r ≡ 0 → 4000000 < cells → (eqb r 0 && ltb 4000000 cells) ≡ true
-large_grid r cells h k = rw (eq-eqb r 0 h, lt-ltb 4000000 cells k) refl
-
-pub small_grid : (r cells : ℕ) → ((r ≡ 0) × (cells ≤ 4000000)) ⊎ (r ≡ 0 → ⊥) → (eqb r 0 && ltb 4000000 cells) ≡ false
-small_grid r cells (inl h) = rw (eq-eqb r 0 h.0, le-ltb 4000000 cells h.1) refl
-small_grid r cells (inr h) = rw (ne_eqb r 0 h) refl
 
 first_cells : (r cells : ℕ) → r ≡ 0 → (eqb r 0 && ltb 4000000 cells) ≡ false → cells ≤ 4000000
 first_cells zero cells h k = ltb-false _ _ k

@@ -1,5 +1,5 @@
 -- Packet 28: the radials as the reading has them, whose first gives the number of bins, are the one walk's. Assumes nothing.
-use Rattle.std.proofs.Common.{Option, Some, None, ◌≡◌, ℕ, zero, suc, ◌+◌, ◌-◌, ◌*◌, ◌<◌, Bool, true, false, not, List, ◌∷◌, sym, refl, ap, ◌∙◌, ap₂, append-nil, arith, eq-eqb}
+use Rattle.std.proofs.Common.{Some, None, ◌≡◌, ℕ, zero, suc, ◌+◌, ◌-◌, ◌*◌, ◌<◌, Bool, not, List, ◌∷◌, sym, refl, ap, ◌∙◌, ap₂, append-nil, arith, eq-eqb}
 use lib.Seq.{slice}
 use lib.Ieee.{Float}
 use Rattle.wire.specs.Refusal.{Refusal}

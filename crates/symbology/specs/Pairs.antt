@@ -4,23 +4,18 @@ use Rattle.wire.specs.Refusal.{kind}
 use Rattle.wire.specs.Result.{Result, accepted, refused, refuse, then}
 use Rattle.wire.specs.Reading.{Given, run}
 use Rattle.wire.specs.SameFloat.{same_float}
-use Rattle.symbology.specs.Walk.{in_mode, any_radial, any_walk, first_row}
+use Rattle.symbology.specs.Walk.{in_mode, radial_by, radials_by, first_row}
 use Rattle.symbology.specs.Merge.{same_floats, disagree, agreed, merge_rows}
 use Rattle.symbology.specs.Answers.{GapPicture, picture_with}
-use Rattle.symbology.specs.declared.figures.Packet.{Packet}
 use Rattle.symbology.specs.declared.figures.Figures.{Figures}
 use Rattle.symbology.specs.declared.pairs.Side.{Side}
 
 -- a radial that stands at p, and all radials from p on, read with gaps
-abbrev pub radial_at : Packet → ℕ → ℕ → ℕ → List ℕ → ℕ → Result (Given Float)
-radial_at packet radials bins r s p = run (in_mode true (any_radial packet radials bins r)) s p
+abbrev pub radial_at : Figures → ℕ → List ℕ → ℕ → Result (Given Float)
+radial_at f r s p = run (in_mode true (radial_by f r)) s p
 
-abbrev pub walk_at : Packet → ℕ → ℕ → List ℕ → ℕ → Result (Given (List Float))
-walk_at packet radials bins s p = run (in_mode true (any_walk packet radials bins radials 0)) s p
-
--- the same by the figures
 abbrev pub walk_by : Figures → List ℕ → ℕ → Result (Given (List Float))
-walk_by f s p = walk_at f.packet f.n_radials f.n_bins s p
+walk_by f s p = run (in_mode true (radials_by f)) s p
 
 -- one radial of both: 43 where the centres differ
 unfoldable pub turned : Result (Given Float) → Result (Given Float) → Result Side

@@ -129,6 +129,16 @@ any_walk packet radials bins (suc n) r = do
   azimuths ← any_walk packet radials bins n (suc r)
   give (first ∷ azimuths)
 
+-- the same by a body's figures
+abbrev pub frame_by : Figures → ℕ → Flat Span
+frame_by f r = any_frame f.packet f.n_radials f.n_bins r
+
+abbrev pub radial_by : Figures → ℕ → Flat Float
+radial_by f r = any_radial f.packet f.n_radials f.n_bins r
+
+abbrev pub radials_by : Figures → Flat (List Float)
+radials_by f = any_walk f.packet f.n_radials f.n_bins f.n_radials 0
+
 -- ---- what the answers say
 
 -- the centre and the place of the data
@@ -149,6 +159,9 @@ ends_at (Std.Err e) p = false
 abbrev pub walk_from : Bool → Packet → ℕ → ℕ → List ℕ → ℕ → ℕ → Result ℕ
 walk_from gapped packet radials bins s r p = position (walk (in_mode gapped (any_walk packet radials bins (radials - r) r)) s p)
 
+abbrev pub walk_on : Bool → Figures → List ℕ → ℕ → ℕ → Result ℕ
+walk_on gapped f s r p = walk_from gapped f.packet f.n_radials f.n_bins s r p
+
 -- the first bin, which packet 16 alone has
 abbrev pub first_of : Packet → List ℕ → ℕ
 first_of Packet16 body = u16_at body 18
@@ -168,10 +181,6 @@ first_row (row ∷ rows) = row
 abbrev pub row_in : Result (Given Float) → List ℕ
 row_in (accepted g) = first_row g.rows
 row_in (refused x) = []
-
--- a halfword with its bytes in the other order
-abbrev pub swap : ℕ → ℕ
-swap h = h % 256 * 256 + h / 256
 
 -- its centre, and the position after it
 abbrev pub centre_in : Result (Given Float) → Result (Float × ℕ)
@@ -198,33 +207,29 @@ sweep_from f (refused x) = refused x
 -- What a plan says of a reading R of the bytes s: its refusal; or its figures, and where its radials stand, all of which are accepted.
 pub record Planned (gapped : Bool) (figures : Figures) (at next : ℕ) (s : List ℕ) (R : Result (Given Sweep)) : Type 0 where
   pub radials : Given (List Float)
-  pub small : figures.n_radials ≤ 100000
-  pub cells : figures.n_radials * figures.n_bins ≤ 4000000
-  pub radials_are : run (in_mode gapped (any_walk figures.packet figures.n_radials figures.n_bins figures.n_radials 0)) s at ≡ accepted radials
+  pub radials_are : run (in_mode gapped (radials_by figures)) s at ≡ accepted radials
   pub next_is : radials.next ≡ next
   pub whole : R ≡ sweep_from figures (accepted radials)
 
 abbrev pub Plans : Bool → Std.Result Plan Level3DecodeError → List ℕ → Result (Given Sweep) → Type 0
-Plans gapped (Std.Ok plan) s R = Planned gapped plan.figures plan.at plan.next s R
+Plans gapped (Std.Ok plan) s R = Planned gapped plan.grid.figures plan.at plan.next s R
 Plans gapped (Std.Err e) s R = refused (refusal_of e) ≡ R
 
 -- The same of a body, whose radials stand in a part of it.
 pub record Plotted (gapped : Bool) (figures : Figures) (from to at : ℕ) (body : List ℕ) (R : Result (Given Sweep)) : Type 0 where
   pub radials : Given (List Float)
   pub end : ℕ
-  pub small : figures.n_radials ≤ 100000
-  pub cells : figures.n_radials * figures.n_bins ≤ 4000000
   pub ordered : from ≤ to
   pub inside : to ≤ length body
-  pub radials_are : run (in_mode gapped (any_walk figures.packet figures.n_radials figures.n_bins figures.n_radials 0)) (slice from to body) at ≡ accepted radials
+  pub radials_are : run (in_mode gapped (radials_by figures)) (slice from to body) at ≡ accepted radials
   pub whole : R ≡ accepted (record { value = record { figures = figures; azimuths = radials.value }; next = end; rows = radials.rows })
 
 abbrev pub Plots : Bool → Std.Result BodyPlan Level3DecodeError → List ℕ → Result (Given Sweep) → Type 0
-Plots gapped (Std.Ok plan) body R = Plotted gapped plan.figures plan.from plan.to plan.at body R
+Plots gapped (Std.Ok plan) body R = Plotted gapped plan.grid.figures plan.from plan.to plan.at body R
 Plots gapped (Std.Err e) body R = refused (refusal_of e) ≡ R
 
 abbrev pub in_part : ℕ → ℕ → Plan → BodyPlan
-in_part from to plan = record { figures = plan.figures; from = from; to = to; at = plan.at }
+in_part from to plan = record { grid = plan.grid; from = from; to = to; at = plan.at }
 
 -- a body's reading on terms, with buffers of na and nc places: its own refusals, then 10, 9, 36
 abbrev pub on_terms : Terms → ℕ → ℕ → Result (Given Sweep) → Result (Given Sweep)

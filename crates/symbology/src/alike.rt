@@ -24,6 +24,7 @@ impl<'a> Iterator for Cells<'a> {
 
     #[tactic(auto, unfolding(crate::specs::Rows::cells))]
     fn next(&mut self) -> Option<u8> {
+        // Not a count: past the runs that cover no cell.
         while self.left == 0 {
             let [run, rest @ ..] = self.runs else {
                 return None;

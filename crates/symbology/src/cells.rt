@@ -25,6 +25,7 @@ impl Cell for u8 {
     ghost cell = { λ n. n };
 
     fn of(colour: u16) -> u8 {
+        // In range by the proof: `try_from` would be a test that cannot fail.
         colour as u8
     }
 }

@@ -9,8 +9,8 @@ ghost use Rattle.symbology.specs.Centre.{centre, centre28, width_degrees};
 pub fn azimuth_centre_deg(start_angle: u16, delta: u16) -> f64
     ensures { result ≡ centre start_angle delta }
 {
-    let twentieths = (2 * (start_angle as u32) + delta as u32) % 7200;
-    twentieths as f64 / 20.0
+    let twentieths = (2 * u32::from(start_angle) + u32::from(delta)) % 7200;
+    f64::from(twentieths) / 20.0
 }
 
 // What is left of n x 2^times after whole turns.
@@ -33,6 +33,7 @@ fn fractional(digits: u64, places: u64) -> f64
 {
     let unit = 1u64 << places;
     let rest = digits % (360 * unit);
+    // No `From` makes a float of a `u64`.
     rest as f64 / unit as f64
 }
 
@@ -40,6 +41,7 @@ fn fractional(digits: u64, places: u64) -> f64
 fn whole(digits: u64, times: u64) -> f64
     ensures { result ≡ round binary64 false (digits * 2 ^ times % 360) 1 }
 {
+    // As above.
     doubled(digits % 360, times) as f64
 }
 
@@ -85,5 +87,5 @@ pub fn azimuth_centre_28(azimuth: f32, width: f32) -> f64
 pub fn width_deg(width: u16) -> f32
     ensures { result ≡ width_degrees width }
 {
-    width as f32 / 10.0
+    f32::from(width) / 10.0
 }

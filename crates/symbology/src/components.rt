@@ -8,11 +8,12 @@ ghost use Rattle.symbology.specs.Walk.{in_mode, position, listed, next_component
 
 use crate::figures::{Figures, Geometry, Packet};
 use crate::generic::{Gates28, component_head, product_block, xdr_frame};
-use crate::spans::Plan;
+use crate::spans::{Grid, Plan, Radials28};
 use wire::error::{Level3DecodeError, XdrItem};
 use xdr::xdr::XdrCursor;
 
-// All radials, of which the first gives the number of bins.
+// All radials, of which the first gives the number of bins. The payload, a place and the flag go down through all of these; a struct would
+// be made anew at each place.
 fn radials_from(
     buf: &[u8],
     at: usize,
@@ -23,7 +24,11 @@ fn radials_from(
     ensures { Plans gaps result buf.now
         (run (in_mode gaps (xdr_radials gates.radials gates.gate_width gates.first_gate)) buf.now at) }
 {
-    let first = xdr_frame(&mut XdrCursor::from(buf, at), gates.radials, 0, None)?;
+    let radials = Radials28 {
+        n_radials: gates.radials,
+        n_bins: None,
+    };
+    let first = xdr_frame(&mut XdrCursor::from(buf, at), radials, 0)?;
     let figures = Figures {
         packet: Packet::Packet28,
         n_radials: gates.radials,
@@ -33,7 +38,7 @@ fn radials_from(
             first_gate_m: gates.first_gate,
         },
     };
-    crate::walks::plan_radials(buf, at, figures, gaps)
+    crate::walks::plan_radials(buf, at, Grid { figures }, gaps)
 }
 
 fn component(buf: &[u8], at: usize, gaps: bool) -> Result<Plan, Level3DecodeError>

@@ -1,5 +1,5 @@
 // Packet 28: the generic data packet. Its payload is handed on as a part, and read by XDR items one after another.
-ghost use Rattle.std.specs.Prelude.{ℕ, ◌≡◌, ◌≤◌};
+ghost use Rattle.std.specs.Prelude.{ℕ, ◌≡◌};
 ghost use Rattle.wire.specs.Result.{answer};
 ghost use Rattle.wire.specs.Reading.{walk};
 ghost use Rattle.xdr.specs.Cursor.{read_at, ended, Leaves};
@@ -7,7 +7,7 @@ ghost use Rattle.symbology.specs.Symbology.{product_block, xdr_frame, component_
 ghost use Rattle.symbology.specs.Walk.{expected_of, frame_tested, xdr_radial_span, placed};
 
 use crate::radials::MAX_GATE_COUNT;
-use crate::spans::Place;
+use crate::spans::{Grid, Place, Radials28};
 use wire::error::{Level3DecodeError, XdrItem};
 use xdr::xdr::{XdrCursor, at_least_0};
 
@@ -31,24 +31,25 @@ pub struct Gates28 {
 }
 
 // 29, 31, 32, 33: the last of the first radial alone.
+#[tactic(auto, unfolding(crate::specs::Walk::frame_tested))]
 fn test_frame(
-    n_radials: usize,
+    radials: Radials28,
     r: usize,
     num_bins: i32,
-    expected: Option<usize>,
     declared: usize,
 ) -> Result<(), Level3DecodeError>
-    requires { n_radials ≤ 100000 }
-    ensures { (p : ℕ) → ended result p ≡ frame_tested n_radials r num_bins expected declared p }
+    ensures { (p : ℕ) → ended result p ≡ frame_tested radials.n_radials r num_bins radials.n_bins declared p }
 {
+    let n_radials = radials.n_radials;
     if num_bins <= 0 {
+        // In range by the proof: `try_from` would be a test that cannot fail.
         return Err(Level3DecodeError::NonPositiveXdrGeometry {
             n_radials: n_radials as i32,
             n_bins: num_bins,
         });
     }
     let n_bins = at_least_0(num_bins);
-    let expected = expected.unwrap_or(n_bins);
+    let expected = radials.n_bins.unwrap_or(n_bins);
     if n_bins != expected {
         return Err(Level3DecodeError::XdrRadialBinCountMismatch {
             radial: r,
@@ -75,15 +76,13 @@ fn test_frame(
     Ok(())
 }
 
-// A radial's frame: all six items, then 29, 31, 32, 33. No number of bins is expected where it is not known yet.
+// A radial's frame: all six items, then 29, 31, 32, 33.
 pub fn xdr_frame(
     c: &mut XdrCursor,
-    n_radials: usize,
+    radials: Radials28,
     r: usize,
-    expected: Option<usize>,
 ) -> Result<XdrRadial, Level3DecodeError>
-    requires { n_radials ≤ 100000 }
-    ensures { Leaves (read_at (xdr_frame n_radials r (expected_of expected)) c.old) result c.old c.new }
+    ensures { Leaves (read_at (xdr_frame radials.n_radials r (expected_of radials.n_bins)) c.old) result c.old c.new }
 {
     let azimuth = c.unpack_float()?;
     c.skip(XdrItem::Float, 4)?; // elevation
@@ -91,7 +90,7 @@ pub fn xdr_frame(
     let num_bins = c.unpack_int()?;
     c.skip_string()?; // attributes
     let declared = c.array_count()?;
-    test_frame(n_radials, r, num_bins, expected, declared)?;
+    test_frame(radials, r, num_bins, declared)?;
     let centre = crate::centre::azimuth_centre_28(azimuth, width);
     let bins = at_least_0(num_bins);
     Ok(XdrRadial { centre, bins })
@@ -100,15 +99,17 @@ pub fn xdr_frame(
 pub fn xdr_radial_span(
     buf: &[u8],
     at: usize,
-    n_radials: usize,
-    n_bins: usize,
+    grid: Grid,
     r: usize,
 ) -> Result<Place, Level3DecodeError>
-    requires { n_radials ≤ 100000 }
-    ensures { answer result ≡ placed (walk (xdr_radial_span n_radials n_bins r) buf.now at) }
+    ensures { answer result ≡ placed (walk (xdr_radial_span grid.figures.n_radials grid.figures.n_bins r) buf.now at) }
 {
+    let radials = Radials28 {
+        n_radials: grid.figures.n_radials,
+        n_bins: Some(grid.figures.n_bins),
+    };
     let mut c = XdrCursor::from(buf, at);
-    let radial = xdr_frame(&mut c, n_radials, r, Some(n_bins))?;
+    let radial = xdr_frame(&mut c, radials, r)?;
     let from = c.position();
     Ok(Place {
         centre: radial.centre,

@@ -8,10 +8,13 @@ ghost use Rattle.symbology.specs.Places.{Enough};
 ghost use Rattle.symbology.specs.Answers.{joined, mark_of, shown};
 ghost use Rattle.symbology.specs.Walk.{Accepted, centre_in, row_in};
 ghost use Rattle.symbology.specs.Merge.{disagree, either};
-ghost use Rattle.symbology.specs.Pairs.{radial_at, walk_at, turned, note_of, judged, next_in, both_rows};
+ghost use Rattle.symbology.specs.Pairs.{radial_at, walk_by, turned, note_of, judged, next_in, both_rows};
 
-use crate::figures::Packet;
+use crate::figures::{Figures, Packet};
+use crate::spans::Grid;
 use wire::error::Level3DecodeError;
+
+// The bodies and the places in them are handed on one by one: each radial leaves two new places.
 
 // ---- the check
 
@@ -39,22 +42,19 @@ fn is_disagreed(packet: Packet, n_bins: usize, r: usize, a: &[u8], b: &[u8]) -> 
 
 // One radial of each.
 fn compare_radial(
-    packet: Packet,
+    grid: Grid,
     s: &[u8],
     i: usize,
     t: &[u8],
     j: usize,
-    n_radials: usize,
-    n_bins: usize,
     r: usize,
 ) -> Result<Side, Level3DecodeError>
-    requires { (n_radials ≤ 100000) × Accepted (radial_at packet n_radials n_bins r s.now i)
-        × Accepted (radial_at packet n_radials n_bins r t.now j) }
-    ensures { answer result ≡ turned (radial_at packet n_radials n_bins r s.now i)
-        (radial_at packet n_radials n_bins r t.now j) }
+    requires { Accepted (radial_at grid.figures r s.now i) × Accepted (radial_at grid.figures r t.now j) }
+    ensures { answer result ≡ turned (radial_at grid.figures r s.now i) (radial_at grid.figures r t.now j) }
 {
-    let p = crate::walks::frame_span(packet, s, i, n_radials, n_bins, r)?;
-    let q = crate::walks::frame_span(packet, t, j, n_radials, n_bins, r)?;
+    let Figures { packet, n_bins, .. } = grid.figures;
+    let p = crate::walks::frame_span(grid, s, i, r)?;
+    let q = crate::walks::frame_span(grid, t, j, r)?;
     if !wire::float::same_f64(p.centre, q.centre) {
         return Err(Level3DecodeError::DifferentSweeps);
     }
@@ -74,24 +74,20 @@ fn note(noted: Option<usize>, r: usize, disagrees: bool) -> Option<usize>
 
 // All radials.
 pub fn compare_radials(
-    packet: Packet,
+    grid: Grid,
     s: &[u8],
     start_s: usize,
     t: &[u8],
     start_t: usize,
-    n_radials: usize,
-    n_bins: usize,
 ) -> Result<(), Level3DecodeError>
-    requires { (n_radials ≤ 100000) × Accepted (walk_at packet n_radials n_bins s.now start_s)
-        × Accepted (walk_at packet n_radials n_bins t.now start_t) }
-    ensures { answer result ≡ judged (walk_at packet n_radials n_bins s.now start_s)
-        (walk_at packet n_radials n_bins t.now start_t) }
+    requires { Accepted (walk_by grid.figures s.now start_s) × Accepted (walk_by grid.figures t.now start_t) }
+    ensures { answer result ≡ judged (walk_by grid.figures s.now start_s) (walk_by grid.figures t.now start_t) }
 {
     let mut i = start_s;
     let mut j = start_t;
     let mut noted = None;
-    for r in 0..n_radials {
-        let side = compare_radial(packet, s, i, t, j, n_radials, n_bins, r)?;
+    for r in 0..grid.figures.n_radials {
+        let side = compare_radial(grid, s, i, t, j, r)?;
         i = side.first;
         j = side.second;
         noted = note(noted, r, side.disagrees);
@@ -105,6 +101,7 @@ pub fn compare_radials(
 // ---- the writing
 
 // The first's row if whole, else the second's or a gap; and its mark.
+#[tactic(auto, unfolding(crate::specs::Merge::either, crate::specs::Rows::row_of, crate::specs::Answers::shown))]
 fn merge_row(packet: Packet, r: usize, a: &[u8], b: &[u8], row: &mut [u16]) -> u8
     requires { Enough packet (length row.old) (length a.now) × Enough packet (length row.old) (length b.now) }
     ensures value { result ≡ mark_of (either (marked (row_of packet (length row.old) r a.now))
@@ -131,30 +128,33 @@ pub struct Merged {
 
 // One radial of both.
 fn merge_radial(
-    packet: Packet,
+    grid: Grid,
     s: &[u8],
     i: usize,
     t: &[u8],
     j: usize,
-    n_radials: usize,
     r: usize,
     row: &mut [u16],
 ) -> Merged
-    requires { (n_radials ≤ 100000) × Accepted (radial_at packet n_radials (length row.old) r s.now i)
-        × Accepted (radial_at packet n_radials (length row.old) r t.now j) }
-    ensures first_value { accepted (result.centre, result.first) ≡ centre_in (radial_at packet n_radials (length row.old) r s.now i) }
-    ensures second_value { accepted result.second ≡ next_in (radial_at packet n_radials (length row.old) r t.now j) }
-    ensures mark_value { result.mark ≡ mark_of (either (row_in (radial_at packet n_radials (length row.old) r s.now i))
-        (row_in (radial_at packet n_radials (length row.old) r t.now j))) }
-    ensures row_after { row.new ≡ shown (length row.old)
-        (either (row_in (radial_at packet n_radials (length row.old) r s.now i))
-        (row_in (radial_at packet n_radials (length row.old) r t.now j))) }
+    requires { (length row.old ≡ grid.figures.n_bins) × Accepted (radial_at grid.figures r s.now i)
+        × Accepted (radial_at grid.figures r t.now j) }
+    ensures first_value { accepted (result.centre, result.first) ≡ centre_in (radial_at grid.figures r s.now i) }
+    ensures second_value { accepted result.second ≡ next_in (radial_at grid.figures r t.now j) }
+    ensures mark_value { result.mark
+        ≡ mark_of (either (row_in (radial_at grid.figures r s.now i)) (row_in (radial_at grid.figures r t.now j))) }
+    ensures row_after { row.new ≡ shown grid.figures.n_bins
+        (either (row_in (radial_at grid.figures r s.now i)) (row_in (radial_at grid.figures r t.now j))) }
 {
-    let n_bins = row.len();
     // The check accepted both frames.
-    let p = crate::walks::frame_span(packet, s, i, n_radials, n_bins, r).unwrap();
-    let q = crate::walks::frame_span(packet, t, j, n_radials, n_bins, r).unwrap();
-    let mark = merge_row(packet, r, &s[p.from..p.to], &t[q.from..q.to], row);
+    let p = crate::walks::frame_span(grid, s, i, r).unwrap();
+    let q = crate::walks::frame_span(grid, t, j, r).unwrap();
+    let mark = merge_row(
+        grid.figures.packet,
+        r,
+        &s[p.from..p.to],
+        &t[q.from..q.to],
+        row,
+    );
     Merged {
         centre: p.centre,
         first: p.to,
@@ -165,9 +165,7 @@ fn merge_radial(
 
 // The first's centres, and the rows or gaps and marks that both make.
 pub fn merge_radials(
-    packet: Packet,
-    n_radials: usize,
-    n_bins: usize,
+    grid: Grid,
     s: &[u8],
     start_s: usize,
     t: &[u8],
@@ -176,27 +174,27 @@ pub fn merge_radials(
     codes: &mut [u16],
     marks: &mut [u8],
 )
-    requires n_radials_bound { (n_radials ≤ 100000) × Accepted (walk_at packet n_radials n_bins s.now start_s)
-        × Accepted (walk_at packet n_radials n_bins t.now start_t) }
-    requires n_radials_in_bounds { (n_radials ≤ length azimuths.old) × (n_radials * n_bins ≤ length codes.old) × (n_radials ≤ length marks.old) }
-    ensures azimuths_after { azimuths.new ≡ lent (walk_at packet n_radials n_bins s.now start_s) (λ g. g.value) azimuths.old }
-    ensures codes_after { codes.new ≡ lent (both_rows (walk_at packet n_radials n_bins s.now start_s)
-        (walk_at packet n_radials n_bins t.now start_t)) (λ rows. joined (map (shown n_bins) rows)) codes.old }
-    ensures marks_after { marks.new ≡ lent (both_rows (walk_at packet n_radials n_bins s.now start_s)
-        (walk_at packet n_radials n_bins t.now start_t)) (λ rows. map mark_of rows) marks.old }
+    requires both_accepted { Accepted (walk_by grid.figures s.now start_s) × Accepted (walk_by grid.figures t.now start_t) }
+    requires n_radials_in_bounds { (grid.figures.n_radials ≤ length azimuths.old)
+        × (grid.figures.n_radials * grid.figures.n_bins ≤ length codes.old) × (grid.figures.n_radials ≤ length marks.old) }
+    ensures azimuths_after { azimuths.new ≡ lent (walk_by grid.figures s.now start_s) (λ g. g.value) azimuths.old }
+    ensures codes_after { codes.new ≡ lent (both_rows (walk_by grid.figures s.now start_s) (walk_by grid.figures t.now start_t))
+        (λ rows. joined (map (shown grid.figures.n_bins) rows)) codes.old }
+    ensures marks_after { marks.new ≡ lent (both_rows (walk_by grid.figures s.now start_s) (walk_by grid.figures t.now start_t))
+        (λ rows. map mark_of rows) marks.old }
 {
+    let n_bins = grid.figures.n_bins;
     let mut i = start_s;
     let mut j = start_t;
+    // Counted by hand, as in `write_radials`.
     let mut cell: usize = 0;
-    let mut r: usize = 0;
-    while r < n_radials {
+    for r in 0..grid.figures.n_radials {
         let end = cell + n_bins;
-        let merged = merge_radial(packet, s, i, t, j, n_radials, r, &mut codes[cell..end]);
+        let merged = merge_radial(grid, s, i, t, j, r, &mut codes[cell..end]);
         azimuths[r] = merged.centre;
         marks[r] = merged.mark;
         i = merged.first;
         j = merged.second;
         cell = end;
-        r += 1;
     }
 }

@@ -1,9 +1,9 @@
 // Packets 16 and AF1F: the packet header, and a radial's six bytes.
-ghost use Rattle.std.specs.Prelude.{◌≡◌, ◌*◌, ◌<◌, ◌≤◌, ◌||◌, length, ◌==◌, ◌≢◌, nat_lt};
+ghost use Rattle.std.specs.Prelude.{◌≡◌, ◌*◌, ◌<◌, ◌≤◌, ◌||◌, ◌==◌, nat_lt};
 ghost use Rattle.wire.specs.Bytes.{u16_at};
 ghost use Rattle.wire.specs.Result.{answer};
 ghost use Rattle.wire.specs.Reading.{walk, outcome};
-ghost use Rattle.symbology.specs.Symbology.{covered, count_wrong, over_body, counts, packet_header};
+ghost use Rattle.symbology.specs.Symbology.{covered, count_wrong, over_body, counts};
 ghost use Rattle.symbology.specs.Answers.{header_of};
 ghost use Rattle.symbology.specs.Walk.{beam_span, placed, first_of};
 
@@ -22,28 +22,26 @@ pub struct PacketHeader {
 }
 
 // How many bytes a radial's count covers.
+#[tactic(auto, unfolding(crate::specs::Symbology::covered))]
 fn covered_by(packet: Packet, count: u16) -> usize
     ensures { (result ≡ covered packet count) × (result ≤ count * 4) }
 {
     match packet {
-        Packet::Packet16 => count as usize,
-        Packet::PacketAf1f => count as usize * 2,
-        Packet::Packet28 => count as usize * 4,
+        Packet::Packet16 => usize::from(count),
+        Packet::PacketAf1f => usize::from(count) * 2,
+        Packet::Packet28 => usize::from(count) * 4,
     }
 }
 
 // 21: data past the end; packet 16 count under bins.
+#[tactic(auto, unfolding(crate::specs::Symbology::count_wrong))]
 fn is_count_wrong(packet: Packet, n_bins: usize, count: u16, room: usize) -> bool
     ensures { result ≡ count_wrong packet n_bins count room }
 {
+    let count = usize::from(count);
     match packet {
-        Packet::Packet16 => {
-            if (count as usize) < n_bins {
-                return true;
-            }
-            room < count as usize
-        }
-        Packet::PacketAf1f => room < count as usize * 2,
+        Packet::Packet16 => count < n_bins || room < count,
+        Packet::PacketAf1f => room < count * 2,
         Packet::Packet28 => false,
     }
 }
@@ -52,10 +50,7 @@ fn is_count_wrong(packet: Packet, n_bins: usize, count: u16, room: usize) -> boo
 fn is_width_wrong(width: u16) -> bool
     ensures { result ≡ (width == 0 || nat_lt 100 width) }
 {
-    if width == 0 {
-        return true;
-    }
-    100 < width
+    width == 0 || 100 < width
 }
 
 // A radial's frame: 19, 20, 21, in this order.
@@ -88,7 +83,7 @@ pub fn beam_span(
     if is_count_wrong(packet, n_bins, count, have - 6) {
         return Err(Level3DecodeError::RadialByteCountMismatch {
             radial: r,
-            n_bytes: count as usize,
+            n_bytes: usize::from(count),
             n_bins,
         });
     }
@@ -101,11 +96,11 @@ pub fn beam_span(
 }
 
 // Bytes 18-19, of packet 16 alone.
-fn first_bin(packet: Packet, body: &[u8]) -> usize
+pub(crate) fn first_bin(packet: Packet, body: &[u8]) -> usize
     ensures { result ≡ first_of packet body.now }
 {
     match packet {
-        Packet::Packet16 => wire::bytes::u16_at(body, 18) as usize,
+        Packet::Packet16 => usize::from(wire::bytes::u16_at(body, 18)),
         Packet::PacketAf1f => 0,
         Packet::Packet28 => 0,
     }
@@ -115,7 +110,7 @@ fn first_bin(packet: Packet, body: &[u8]) -> usize
 pub fn count_at(body: &[u8], at: usize) -> usize
     ensures { (result ≡ u16_at body.now at) × (result < 65536) }
 {
-    wire::bytes::u16_at(body, at) as usize
+    usize::from(wire::bytes::u16_at(body, at))
 }
 
 // The product of two numbers of at most 17 bits.
@@ -127,6 +122,7 @@ fn product(a: usize, b: usize) -> usize
 }
 
 // 18, of packet 16 alone.
+#[tactic(auto, unfolding(crate::specs::Symbology::over_body))]
 fn is_over_body(packet: Packet, n_radials: usize, n_bins: usize, room: usize) -> bool
     requires { (n_radials < 65536) × (n_bins < 65536) }
     ensures { result ≡ over_body packet n_radials n_bins room }
@@ -179,19 +175,4 @@ pub fn read_counts(
         n_bins,
         range_scale,
     })
-}
-
-// The packet header from byte 18 on: 12, and the counts.
-pub(crate) fn read_packet_header(
-    body: &[u8],
-    packet: Packet,
-) -> Result<PacketHeader, Level3DecodeError>
-    requires { (18 ≤ length body.now) × (packet ≢ Packet.Packet28) }
-    ensures { header_of result ≡ outcome (walk (packet_header packet) body.now 18) }
-{
-    let len = body.len();
-    if len < 30 {
-        return Err(Level3DecodeError::SymbologyTruncated { len });
-    }
-    read_counts(body, packet, first_bin(packet, body))
 }

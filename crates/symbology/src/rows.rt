@@ -5,7 +5,7 @@ ghost use Rattle.wire.specs.Result.{accepted, answer, then};
 ghost use Rattle.std.specs.List.{position};
 ghost use Rattle.std.specs.Int.{w32, from_be_bytes};
 ghost use Rattle.wire.specs.Text.{all};
-ghost use Rattle.symbology.specs.Rows.{reach, cells, row_af1f, words, is_level, levels, row_of, codes_of, FullRow};
+ghost use Rattle.symbology.specs.Rows.{reach, row_af1f, words, is_level, levels, row_of, codes_of, FullRow};
 ghost use Rattle.symbology.specs.Walk.{kept_of, Ready, cells_from, mark_from};
 ghost use Rattle.wire.specs.Reading.{marked};
 ghost use Rattle.symbology.specs.Places.{Enough};
@@ -54,10 +54,11 @@ pub fn write_row(packet: Packet, data: &[u8], row: &mut [u16])
     }
 }
 
-// The mark of a gap.
+// The mark of a gap. Marks are bytes, as C lends them.
 const GAP: u8 = 1;
 
-// The codes of data that make a row, and the mark 0; else codes 0, and the mark of a gap.
+// The codes of data that make a row, and the mark 0; else codes 0, and the mark of a gap. A row and its data are two slices, so that the
+// clause on their lengths stands here and where two are compared or merged.
 pub fn show_row(packet: Packet, radial: usize, data: &[u8], row: &mut [u16]) -> u8
     requires { Enough packet (length row.old) (length «data».now) }
     ensures value { result ≡ mark_of (marked (row_of packet (length row.old) radial «data».now)) }
@@ -77,6 +78,7 @@ pub fn show_row(packet: Packet, radial: usize, data: &[u8], row: &mut [u16]) -> 
 }
 
 // With gaps, the same. Without, the codes of data that make a row, and 0.
+#[tactic(auto, unfolding(crate::specs::Walk::Ready, crate::specs::Walk::cells_from, crate::specs::Walk::mark_from))]
 pub fn write_cells(packet: Packet, radial: usize, data: &[u8], row: &mut [u16], gaps: bool) -> u8
     requires { Ready gaps packet (length row.old) «data».now }
     ensures value { result ≡ mark_from gaps packet (length row.old) radial «data».now }
@@ -104,6 +106,7 @@ fn write_bytes(src: &[u8], row: &mut [u16])
 // ---- packet AF1F
 
 // The greatest sum of a prefix of the run lengths that is not over n.
+#[tactic(auto, unfolding(crate::specs::Rows::reach))]
 pub(crate) fn rle_reach(runs: &[u8], n: usize) -> usize
     ensures { result ≡ reach n runs.now }
 {
@@ -179,6 +182,7 @@ fn write_levels(body: &[u8], row: &mut [u16])
 {
     let (ints, _) = body.as_chunks::<4>();
     for (i, cell) in row.iter_mut().enumerate() {
+        // In range by the proof: `try_from` would be a test that cannot fail.
         *cell = u32::from_be_bytes(ints[i]) as u16;
     }
 }

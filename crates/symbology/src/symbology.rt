@@ -11,7 +11,7 @@ ghost use Rattle.symbology.specs.Merge.{usable, merge_for};
 ghost use Rattle.symbology.specs.Pairs.{walk_by, merged_parts};
 
 use crate::figures::{Figures, Geometry, Packet, Packets, Terms};
-use crate::spans::{BodyPlan, Plan, Room};
+use crate::spans::{BodyPlan, Grid, Plan, Room};
 use wire::error::{Buffer, Level3DecodeError, XdrItem};
 
 const RADIAL_PACKET_CODE: u16 = 16;
@@ -25,14 +25,14 @@ fn in_part(plan: Plan, from: usize, to: usize) -> BodyPlan
     ensures { result ≡ in_part from to plan }
 {
     BodyPlan {
-        figures: plan.figures,
+        grid: plan.grid,
         from,
         to,
         at: plan.at,
     }
 }
 
-// A packet 16 or AF1F from its header at byte 18 on.
+// A packet 16 or AF1F from its header at byte 18 on: 12, and the counts.
 fn plan_radial_packet(
     body: &[u8],
     packet: Packet,
@@ -41,18 +41,23 @@ fn plan_radial_packet(
     requires { (18 ≤ length body.now) × (packet ≢ Packet.Packet28) }
     ensures { Plots gaps result body.now (run (in_mode gaps (radial_packet packet)) body.now 18) }
 {
-    let h = crate::radials::read_packet_header(body, packet)?;
+    let len = body.len();
+    if len < 30 {
+        return Err(Level3DecodeError::SymbologyTruncated { len });
+    }
+    let h = crate::radials::read_counts(body, packet, crate::radials::first_bin(packet, body))?;
     let figures = Figures {
         packet,
         n_radials: h.n_radials,
         n_bins: h.n_bins,
         geometry: Geometry::RangeScale(h.range_scale),
     };
-    let plan = crate::walks::plan_radials(body, 30, figures, gaps)?;
+    let plan = crate::walks::plan_radials(body, 30, Grid { figures }, gaps)?;
     Ok(in_part(plan, 0, body.len()))
 }
 
 // 23: the payload's length is below 0 or over what remains.
+#[tactic(auto, unfolding(crate::specs::Symbology::body_short))]
 fn is_body_short(size: i32, room: usize) -> bool
     ensures { result ≡ body_short size room }
 {
@@ -128,9 +133,10 @@ pub fn check(body: &[u8]) -> Result<Figures, Level3DecodeError>
     ensures { answer result ≡ figures_in (picture_of body.now) }
 {
     let plan = plan(body, false)?;
-    Ok(plan.figures)
+    Ok(plan.grid.figures)
 }
 
+#[tactic(auto, unfolding(crate::specs::Answers::asked))]
 fn is_asked(packets: Packets, packet: Packet) -> bool
     ensures { result ≡ asked packets packet }
 {
@@ -150,6 +156,7 @@ fn is_asked(packets: Packets, packet: Packet) -> bool
 }
 
 // 9, of a step at or below 0; a NaN is not.
+#[tactic(auto, unfolding(wire::specs::Float::f32))]
 fn test_step(packets: Packets) -> Result<(), Level3DecodeError>
     ensures { answer result ≡ step_of packets }
 {
@@ -166,6 +173,7 @@ fn test_step(packets: Packets) -> Result<(), Level3DecodeError>
 }
 
 // 36, of the first buffer that is too short.
+#[tactic(auto, unfolding(crate::specs::Answers::room_in))]
 fn test_room(
     terms: Terms,
     room: Room,
@@ -193,6 +201,7 @@ fn test_room(
 }
 
 // 10.
+#[tactic(auto, unfolding(crate::specs::Answers::asked))]
 fn test_packet(packets: Packets, packet: Packet) -> Result<(), Level3DecodeError>
     ensures { answer result ≡ refuse (not (asked packets packet)) (kind 10 []) (accepted tt) }
 {
@@ -204,10 +213,10 @@ fn test_packet(packets: Packets, packet: Packet) -> Result<(), Level3DecodeError
 }
 
 // 10, 9, 36.
-fn test_terms(terms: Terms, room: Room, figures: Figures) -> Result<(), Level3DecodeError>
-    requires { figures.n_radials * figures.n_bins ≤ 4000000 }
-    ensures { answer result ≡ admit terms room.azimuths room.codes figures }
+fn test_terms(terms: Terms, room: Room, grid: Grid) -> Result<(), Level3DecodeError>
+    ensures { answer result ≡ admit terms room.azimuths room.codes grid.figures }
 {
+    let figures = grid.figures;
     let cells = figures.n_radials * figures.n_bins;
     test_use(terms, figures).and(test_room(terms, room, figures.n_radials, cells))
 }
@@ -222,17 +231,17 @@ fn test_use(terms: Terms, figures: Figures) -> Result<(), Level3DecodeError>
 }
 
 // With no room asked for, 10 and 9 alone.
-fn test_figures(terms: Terms, ask: Option<Room>, figures: Figures) -> Result<(), Level3DecodeError>
-    requires { figures.n_radials * figures.n_bins ≤ 4000000 }
-    ensures { answer result ≡ asked_for terms ask figures }
+fn test_figures(terms: Terms, ask: Option<Room>, grid: Grid) -> Result<(), Level3DecodeError>
+    ensures { answer result ≡ asked_for terms ask grid.figures }
 {
     match ask {
-        None => test_use(terms, figures),
-        Some(room) => test_terms(terms, room, figures),
+        None => test_use(terms, grid.figures),
+        Some(room) => test_terms(terms, room, grid),
     }
 }
 
 // The whole body, checked, and then its figures.
+#[tactic(auto, unfolding(crate::specs::Walk::in_mode, crate::specs::Answers::passing, crate::specs::Symbology::symbology))]
 fn plan_for(
     body: &[u8],
     terms: Terms,
@@ -242,7 +251,7 @@ fn plan_for(
     ensures { Plots gaps result body.now (passing (asked_for terms ask) (run (in_mode gaps symbology) body.now 0)) }
 {
     let plan = plan(body, gaps)?;
-    test_figures(terms, ask, plan.figures)?;
+    test_figures(terms, ask, plan.grid)?;
     Ok(plan)
 }
 
@@ -256,7 +265,7 @@ pub fn check_for(
     ensures { answer result ≡ figures_in (decode_for terms body.now azimuths codes) }
 {
     let plan = plan_for(body, terms, Some(Room { azimuths, codes }), false)?;
-    Ok(plan.figures)
+    Ok(plan.grid.figures)
 }
 
 // No room for the marks, which are written with gaps alone.
@@ -266,7 +275,7 @@ fn no_marks(gaps: bool, marks: usize, n_radials: usize) -> bool
     gaps && marks < n_radials
 }
 
-// The picture of a body on terms, without gaps or with them.
+// The picture of a body on terms, without gaps or with them: a flag beside the marks, for which walks.rt has the reason.
 fn decode_in(
     body: &[u8],
     terms: Terms,
@@ -283,18 +292,16 @@ fn decode_in(
         codes: codes.len(),
     };
     let plan = plan_for(body, terms, Some(room), gaps)?;
-    let figures = plan.figures;
+    let figures = plan.grid.figures;
     if no_marks(gaps, marks.len(), figures.n_radials) {
         return Err(Level3DecodeError::BufferTooShort {
             buffer: Buffer::Marks,
         });
     }
     crate::walks::write_radials(
-        figures.packet,
+        plan.grid,
         &body[plan.from..plan.to],
         plan.at,
-        figures.n_radials,
-        figures.n_bins,
         azimuths,
         codes,
         marks,
@@ -305,6 +312,7 @@ fn decode_in(
 
 // The picture of a body on terms: its figures; in the front of the buffers the centres in degrees and the codes by row. A refusal
 // writes nothing.
+#[tactic(auto, unfolding(crate::specs::Walk::DecodesIn))]
 pub fn decode_for(
     body: &[u8],
     terms: Terms,
@@ -314,11 +322,13 @@ pub fn decode_for(
     ensures { Decodes (decode_for terms body.now)
         azimuths.old azimuths.new codes.old codes.new result }
 {
+    // Without gaps no mark is written.
     let mut none = [0u8; 1];
     decode_in(body, terms, azimuths, codes, &mut none, false)
 }
 
 // The same of any packet.
+#[tactic(auto, unfolding(crate::specs::Answers::decode_of))]
 pub fn decode_symbology(
     body: &[u8],
     azimuths: &mut [f64],
@@ -336,6 +346,7 @@ pub fn decode_symbology(
 
 // The picture of a body on terms, with gaps where a radial's data make no row, and a mark for each radial: 1 for a gap, else 0. A refusal
 // writes nothing.
+#[tactic(auto, unfolding(crate::specs::Walk::DecodesIn))]
 pub fn decode_with_gaps(
     body: &[u8],
     terms: Terms,
@@ -353,7 +364,7 @@ pub fn decode_with_gaps(
 
 // Two bodies of the same figures, whose radials stand in s and t: 43 of their azimuths, 44, 36, and the picture.
 fn merge_parts(
-    figures: Figures,
+    grid: Grid,
     s: &[u8],
     i: usize,
     t: &[u8],
@@ -363,36 +374,24 @@ fn merge_parts(
     codes: &mut [u16],
     marks: &mut [u8],
 ) -> Result<Figures, Level3DecodeError>
-    requires { (figures.n_radials ≤ 100000) × (figures.n_radials * figures.n_bins ≤ 4000000)
-        × Accepted (walk_by figures s.now i) × Accepted (walk_by figures t.now j) }
-    ensures { DecodesWithGaps (gaps_on_terms terms (merged_parts figures (walk_by figures s.now i) (walk_by figures t.now j)))
+    requires { Accepted (walk_by grid.figures s.now i) × Accepted (walk_by grid.figures t.now j) }
+    ensures { DecodesWithGaps (gaps_on_terms terms
+        (merged_parts grid.figures (walk_by grid.figures s.now i) (walk_by grid.figures t.now j)))
         azimuths.old azimuths.new codes.old codes.new marks.old marks.new result }
 {
-    let packet = figures.packet;
-    crate::pairs::compare_radials(packet, s, i, t, j, figures.n_radials, figures.n_bins)?;
+    crate::pairs::compare_radials(grid, s, i, t, j)?;
     let room = Room {
         azimuths: azimuths.len(),
         codes: codes.len(),
     };
-    test_terms(terms, room, figures)?;
-    if marks.len() < figures.n_radials {
+    test_terms(terms, room, grid)?;
+    if marks.len() < grid.figures.n_radials {
         return Err(Level3DecodeError::BufferTooShort {
             buffer: Buffer::Marks,
         });
     }
-    crate::pairs::merge_radials(
-        packet,
-        figures.n_radials,
-        figures.n_bins,
-        s,
-        i,
-        t,
-        j,
-        azimuths,
-        codes,
-        marks,
-    );
-    Ok(figures)
+    crate::pairs::merge_radials(grid, s, i, t, j, azimuths, codes, marks);
+    Ok(grid.figures)
 }
 
 // The picture that two receptions of a body make on terms, each read with gaps: a row is the first's if whole there, else the second's if
@@ -410,11 +409,11 @@ pub fn merge_pictures(
 {
     let p = plan_for(first, terms, None, true)?;
     let q = plan_for(second, terms, None, true)?;
-    if !crate::same::same_figures(p.figures, q.figures) {
+    if !crate::same::same_figures(p.grid.figures, q.grid.figures) {
         return Err(Level3DecodeError::DifferentSweeps);
     }
     merge_parts(
-        p.figures,
+        p.grid,
         &first[p.from..p.to],
         p.at,
         &second[q.from..q.to],

@@ -52,7 +52,7 @@ fn sum_of(total: u64, ends: &[u64], rates: &[u32]) -> u64
     let mut from = 0;
     for (to, rate) in ends.iter().zip(rates) {
         let part = total.min(*to).saturating_sub(from);
-        let rate = *rate as u64;
+        let rate = u64::from(*rate);
         sum += part * rate;
         from = *to;
     }

@@ -3,17 +3,12 @@ use Prim.Native.Nat.{ℕ, zero, suc, ◌<◌, suc-le-suc}
 use native.Mathlib.Nat.{not-suc-le-zero, le_of_suc-le-suc, lt_trans}
 use native.Mathlib.Omega.{arith}
 use mathlib.Core.List.{List, [], ◌∷◌}
-use mathlib.Core.Path.{◌≡◌, refl, ap, ◌∙◌}
+use mathlib.Core.Path.{◌≡◌, refl}
 use mathlib.Core.Bool.{Bool, true, false, ◌&&◌}
 use lib.ListN.{length, get_or}
 use lib.Dec.{ltb}
-use lib.IntN.{ℤ, pos, negsuc, nat_abs}
-use mir.Syntax.{w16}
-use mir.Val.{SFits}
 use borrow.Author.Tests.{ltb-true, lt-ltb}
-use Rattle.std.specs.Int.{FitsUnsignedBits}
-use Rattle.wire.specs.Products.{codes, known, Ascending, climbs}
-use Rattle.wire.specs.Text.{member}
+use Rattle.wire.specs.Products.{codes, Ascending, climbs}
 
 -- ---- ascending
 
@@ -53,15 +48,3 @@ unfolding codes climbs
 codes_ascending = ascends codes refl
 
 -- ---- the signed code
-
--- a code that is a halfword without a sign is looked up
-pub looked_up : (z : ℤ) (n : ℕ) → FitsUnsignedBits 16 z → n ≡ nat_abs z → member n codes ≡ known z
-unfolding known
-looked_up (pos m) n f e = ap (λ k. member k codes) e
-looked_up (negsuc m) n f e = absurd f
-
--- and no other code is known
-pub not_looked_up : (z : ℤ) → SFits w16 z → (FitsUnsignedBits 16 z → ⊥) → false ≡ known z
-unfolding known
-not_looked_up (pos n) f h = absurd (h (omega (arith, f.sfits)))
-not_looked_up (negsuc n) f h = refl

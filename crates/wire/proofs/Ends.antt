@@ -5,7 +5,7 @@ use mathlib.Core.List.{List, [], ◌∷◌, ◌++◌}
 use mathlib.Core.Path.{◌≡◌, refl, sym, ap, ◌∙◌}
 use mathlib.Core.Bool.{Bool, true, false, cond}
 use lib.ListN.{length, get_or, take, drop, length-take}
-use lib.Seq.{take-suc, take-length, length-take-le}
+use lib.Seq.{take-suc, take-length}
 use Rattle.wire.specs.Text.{trim_end, trim_front, leading, unless}
 
 -- the front is trimmed by passing what leads

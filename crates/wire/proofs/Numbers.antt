@@ -1,5 +1,5 @@
 -- Laws of specs/Bytes.antt. Assumes nothing.
-use Prim.Native.Nat.{ℕ, suc, ◌+◌, ◌*◌, ◌-◌, ◌/◌, ◌%◌, ◌^◌, ◌≤◌, ◌<◌}
+use Prim.Native.Nat.{ℕ, suc, ◌+◌, ◌-◌, ◌/◌, ◌%◌, ◌^◌, ◌≤◌, ◌<◌}
 use native.Mathlib.Nat.{div-add-mod'}
 use native.Mathlib.Omega.{arith}
 use mathlib.Core.List.{List}
@@ -11,20 +11,12 @@ use mathlib.Core.Bool.{Bool, true, false, cond}
 use lib.Dec.{ltb}
 use lib.IntN.{pos, ◌-ℤ◌}
 use borrow.Author.Tests.{le-leb, lt-leb, lt-ltb}
-use Rattle.wire.specs.Bytes.{u16_at, u32_at, signed, if_inside}
+use Rattle.wire.specs.Bytes.{u16_at, signed, if_inside}
 
 -- a byte past the end counts 0
 pub past : (s : List ℕ) (at : ℕ) → length s ≤ at → 0 ≡ u16_at s at
 unfolding u16_at
 past s at h = omega (arith, get_or-eq_default s 0 h, get_or-eq_default s 0 {n = at + 1} (omega arith))
-
-pub past32 : (s : List ℕ) (at : ℕ) → length s ≤ at → 0 ≡ u32_at s at
-unfolding u32_at
-past32 s at h = omega (arith, past s at h, past s (at + 2) (omega arith))
-
-pub half32 : (s : List ℕ) (at x : ℕ) → length s - at ≤ 2 → x ≡ u16_at s at → x * 65536 ≡ u32_at s at
-unfolding u32_at
-half32 s at x h e = omega (arith, past s (at + 2) (omega arith))
 
 -- a halfword by two bytes, and the two by the halfword
 pub half_of : (s : List ℕ) (i n : ℕ) → get_or s i 0 ≡ n / 256 → get_or s (i + 1) 0 ≡ n % 256 → n ≡ u16_at s i

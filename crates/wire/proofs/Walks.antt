@@ -1,17 +1,14 @@
 -- Walks over a list. `g i t` is the answer once i elements are passed and t is left: a loop keeps it equal to the whole answer, `g 0 s`.
 -- Assumes nothing.
-use Prim.Native.Nat.{ℕ, suc, ◌+◌, ◌-◌, ◌≤◌, ◌<◌}
-use native.Mathlib.Nat.{zero-add, add-zero}
-use native.Mathlib.Numerals.{add-one}
+use Prim.Native.Nat.{ℕ, ◌-◌, ◌≤◌}
 use native.Mathlib.Omega.{arith}
 use mathlib.Core.List.{List, [], ◌∷◌}
-use mathlib.Core.Path.{◌≡◌, refl, sym, ap, ◌∙◌}
-use mathlib.Core.Bool.{Bool, true, false, cond, ◌&&◌, ◌||◌}
-use lib.ListN.{length, get_or, take, drop, length-drop}
-use lib.Seq.{drop-cons, drop-length, drop-drop, take_all}
+use mathlib.Core.Path.{◌≡◌, refl}
+use mathlib.Core.Bool.{false, ◌||◌}
+use lib.ListN.{length, take, drop, length-drop}
+use lib.Seq.{take_all}
 use lib.Dec.{eqb}
-use borrow.Author.Tests.{eq-eqb, ne_eqb}
-use Rattle.wire.specs.Text.{member, all, leading}
+use Rattle.wire.specs.Text.{member}
 
 pub record Walk {A : Type 0} (g : ℕ → List ℕ → A) (s : List ℕ) (i : ℕ) : Type 0 where
   pub within : i ≤ length s

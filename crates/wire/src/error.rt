@@ -1,4 +1,4 @@
-// The kinds of refusal, in the order of their numbers: 1 to 41, 43 and 44.
+// The kinds of refusal, in the order of their numbers: 1 to 44.
 // specs/Refusal.antt gives the number and the values of each.
 
 // The XDR item that was cut short.

@@ -24,6 +24,7 @@ pub fn f32_from_bits(bits: u32) -> f32
     }
 }
 
+#[tactic(auto, unfolding(crate::specs::Float::f32_at))]
 pub fn f32_at(s: &[u8], at: usize) -> f32
     ensures { result ≡ f32_at s.now at }
 {

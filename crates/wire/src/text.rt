@@ -21,6 +21,7 @@ pub fn trimmed_len(s: &[u8]) -> usize
     ensures { result ≡ length (trim_end is_zero s.now) }
 {
     let mut kept = s;
+    // A slice pattern, which counts no index.
     while let [front @ .., last] = kept {
         if *last != 0 {
             break;

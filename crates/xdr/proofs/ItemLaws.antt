@@ -1,5 +1,5 @@
 -- Laws of the items, in the words of a reading that was cut short, that is too long, or that gives its value. Assumes nothing.
-use Prim.Native.Nat.{ℕ, ◌+◌, ◌*◌, ◌-◌, ◌≤◌, ◌<◌}
+use Prim.Native.Nat.{ℕ, zero, suc, ◌+◌, ◌*◌, ◌-◌, ◌≤◌, ◌<◌}
 use native.Mathlib.Omega.{arith}
 use mathlib.Core.List.{List, [], ◌∷◌}
 use mathlib.Core.Bool.{Bool, true, false, cond}
@@ -11,15 +11,15 @@ use lib.Dec.{ltb}
 use borrow.Author.Tests.{lt-ltb, le-ltb, ltb-false}
 use Rattle.wire.specs.Bytes.{u32_at}
 use Rattle.wire.specs.Refusal.{Refusal, kind, nat, item}
-use Rattle.wire.specs.Reading.{give, ◌>>=◌, ◌>>◌, remaining, u32, unread, Ended, passed, halted, onward, walk}
+use Rattle.wire.specs.Reading.{Read, give, ◌>>=◌, ◌>>◌, remaining, u32, unread, Ended, passed, halted, onward, walk}
 use Rattle.wire.specs.Text.{is_zero, trim_end}
 use Rattle.wire.specs.declared.error.XdrItem.{XdrItem}
 use Rattle.wire.specs.declared.error.XdrItem.TheVariants as Item
 use Rattle.wire.proofs.Readings.{walk_then, walk_check, then_passed, then_halted, part_slice}
-use Rattle.xdr.specs.Xdr.{short, pass, word, int, uint, padding, string_body, string, array_count, int_array, pointer, list_head, list_count}
+use Rattle.xdr.specs.Xdr.{short, pass, word, int, uint, padding, string_body, string, array_count, int_array, pointer, list_head, list_count, further, elements, counted}
 use Rattle.xdr.proofs.Items.{uint_end, array_count_end}
 use Rattle.xdr.specs.declared.xdr.Part.{Part}
-use Rattle.xdr.specs.Cursor.{mapped, trimmed_part, string_part, array_part}
+use Rattle.xdr.specs.Cursor.{mapped, done, trimmed_part, string_part, array_part}
 
 abbrev pub on : ℕ → Ended (Unit {0})
 on q = passed tt q
@@ -161,3 +161,17 @@ module _ (s : List ℕ) (p : ℕ) where
     head_count {y} {r} k e =
         ap (λ z. list_count z r) k
         ∙ sym (then_passed _ int s p known ∙ then_passed _ (pass Item.Int 4) s q e ∙ walk_check (lt_z (pos 10000) n) _ _ s r)
+
+-- ---- the elements of a list
+
+module _ {A : Type 0} (e : Read ⊥ A) (s : List ℕ) where
+  -- the first element, and the others after it
+  pub elements_more : (k p : ℕ) → (k ≡ 0 → ⊥) → onward (walk e s p) (λ a q. walk {W = ⊥} (further e (k - 1) >>= λ others. give (a ∷ others)) s q) ≡ walk (elements e k) s p
+  unfolding elements ◌>>=◌ walk
+  elements_more zero p h = absurd (h refl)
+  elements_more (suc k) p h = let f : suc k - 1 ≡ k = omega arith in rw f (sym (walk_then _ e s p))
+
+  -- a list whose head passed is its elements
+  pub list_elements : (p : ℕ) {n q : ℕ} → passed n q ≡ walk list_head s p → done (walk (elements e n) s q) ≡ done (walk (counted e) s p)
+  unfolding counted
+  list_elements p h = ap done (sym (then_passed _ list_head s p h))

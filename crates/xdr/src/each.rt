@@ -1,5 +1,4 @@
 // A payload read with one cursor: an item of each kind, one after another.
-ghost use Rattle.std.specs.Prelude.{◌≡◌};
 ghost use Rattle.xdr.specs.Each.{Each};
 
 use crate::xdr::{Part, XdrCursor};

@@ -1,6 +1,5 @@
 // A payload and a position in it. Each read leaves the cursor where it ended; a refused one after its last whole take.
 ghost use Rattle.std.specs.Prelude.{◌≡◌, ◌-◌, ◌<◌, length};
-ghost use Rattle.wire.specs.Reading.{outcome, walk};
 ghost use Rattle.xdr.specs.Xdr.{short, pass, word, int, uint, float, string, array_count, int_array, at_least0, list_head, parameter, counted};
 ghost use Rattle.xdr.specs.Cursor.{start, from_place, read_at, done, string_part, array_part, Leaves, Tests};
 
@@ -29,10 +28,7 @@ pub struct XdrCursor<'a> {
 pub fn at_least_0(n: i32) -> usize
     ensures { (result ≡ at_least0 n) × (result < 2147483648) }
 {
-    if n <= 0 {
-        return 0;
-    }
-    n as usize
+    usize::try_from(n).unwrap_or(0)
 }
 
 impl<'a> XdrCursor<'a> {
@@ -51,7 +47,7 @@ impl<'a> XdrCursor<'a> {
     pub fn position(&self) -> usize
         ensures { result ≡ self.now.pos }
     {
-        self.pos
+        self.pos // of the next byte
     }
 
     pub fn bytes_remaining(&self) -> usize
@@ -124,6 +120,7 @@ impl<'a> XdrCursor<'a> {
                 max: MAX_XDR_STRING_LEN,
             });
         }
+        // No `From` makes a `usize` of a `u32`.
         let n = len as usize;
         self.skip(XdrItem::StringBody, n)?;
         self.skip(XdrItem::Padding, (4 - n % 4) % 4)?;
@@ -154,6 +151,7 @@ impl<'a> XdrCursor<'a> {
                 max: MAX_XDR_ARRAY_LEN,
             });
         }
+        // No `From` makes a `usize` of a `u32`.
         let n = len as usize;
         self.need(XdrItem::ArrayBody, n * 4)?;
         Ok(n)

@@ -8,7 +8,7 @@ returns-in-Ok-clause-leaves c = let k = copied _ _ _ c.if-thresholds-ne32.false 
 pub returns-in-Ok-clause-thresholds_after : goal.returns-in-Ok-clause-thresholds_after
 returns-in-Ok-clause-thresholds_after c =
     let k = copied _ _ _ c.if-thresholds-ne32.false c.in-Ok.ensures in
-    let l : length c.in-Ok.bytes ≡ length c.args.thresholds.now = search rules in
+    let l : length c.in-Ok.copy.bytes ≡ length c.args.thresholds.now = search rules in
     rw (k.1, sym c.is_short.ensures ∙ c.if-is_short.false) (c.copy_from_slice.ensures.after ∙ k.2 ∙ sym (over_all _ _ (ap length (sym k.2) ∙ l)))
 
 pub returns-in-Err-clause-leaves : goal.returns-in-Err-clause-leaves

@@ -3,7 +3,7 @@ use lib.Seq.{length-take-le}
 use lib.ListN.{drop}
 use Prim.Native.Nat.{◌+◌, ◌*◌}
 use mathlib.Core.List.{◌++◌}
-use mathlib.Core.Path.{◌∙◌, sym, ap}
+use mathlib.Core.Path.{sym, ap}
 use native.Mathlib.Omega.{arith}
 use borrow.Author.Rules.{rules}
 use Rattle.export.proofs.radials.write_radial.Goals as goal

@@ -1,7 +1,6 @@
 use mathlib.Core.Path.{refl, ap}
-use mathlib.Core.Logic.{⊎_elim}
 use Rattle.wire.proofs.Results.{returned}
-use Rattle.fields.specs.Fields.{checked_in, checked_on, rain_scale}
+use Rattle.fields.specs.Fields.{checked_in, checked_on}
 use Rattle.fields.proofs.Joined.{no_head_lem, with_rain, without, rainless}
 use Rattle.fields.proofs.fields.check_totals.Goals as goal
 

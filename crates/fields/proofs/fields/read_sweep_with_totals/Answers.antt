@@ -1,12 +1,8 @@
 use native.Mathlib.Omega.{arith}
 use lib.Seq.{length-take-le}
 use mathlib.Core.Path.{sym}
-use Rattle.wire.proofs.Results.{returned}
-use Rattle.fields.proofs.Joined.{refuses, passes, sweep_accepts, cells_fit, totals_fit, cells_there, asks, done}
+use Rattle.fields.proofs.Joined.{passes, sweep_accepts, cells_fit, totals_fit, cells_there, asks, done}
 use Rattle.fields.proofs.fields.read_sweep_with_totals.Goals as goal
-
-pub returns-in_err-done : goal.returns-in_err-done
-returns-in_err-done c = rw (returned c.from_residual.ensures.1) (refuses _ _ _ _ _ _ _ _ _ c.in_err-done.ensures)
 
 pub returns-in_err-read_sweep : goal.returns-in_err-read_sweep
 returns-in_err-read_sweep c = sweep_accepts _ _ _ _ _ _ _ _ _ (passes _ _ _ _ _ _ _ _ _ c.in_ok-done.ensures) c.in_err-read_sweep.ensures.answered
@@ -14,22 +10,25 @@ returns-in_err-read_sweep c = sweep_accepts _ _ _ _ _ _ _ _ _ (passes _ _ _ _ _ 
 pub overflow_mul-cells : goal.overflow_mul-cells
 overflow_mul-cells c = record { fits = omega (arith, cells_fit _ _ _ _ _ _ _ _ _ (passes _ _ _ _ _ _ _ _ _ c.in_ok-done.ensures)) }
 
+pub slice_bounds-grid-end : goal.slice_bounds-grid-end
+slice_bounds-grid-end c = cells_there _ _ _ _ _ _ _ _ _ (passes _ _ _ _ _ _ _ _ _ c.in_ok-done.ensures) c.in_ok-read_sweep.ensures.codes
+
+pub slice_bounds-grid-end-2 : goal.slice_bounds-grid-end-2
+slice_bounds-grid-end-2 c = sym (length-take-le _ _ (slice_bounds-grid-end c))
+
+pub invariant_of-grid : goal.invariant_of-grid
+invariant_of-grid c = record { full = (asks _ _ _ _ _ _ _ _ _ (passes _ _ _ _ _ _ _ _ _ c.in_ok-done.ensures) c.in_ok-read_sweep.ensures.codes).1 }
+
 pub slice_bounds-write_totals-end : goal.slice_bounds-write_totals-end
-slice_bounds-write_totals-end c = cells_there _ _ _ _ _ _ _ _ _ (passes _ _ _ _ _ _ _ _ _ c.in_ok-done.ensures) c.in_ok-read_sweep.ensures.codes
+slice_bounds-write_totals-end c = totals_fit _ _ _ _ _ _ _ _ _ (passes _ _ _ _ _ _ _ _ _ c.in_ok-done.ensures)
 
 pub slice_bounds-write_totals-end-2 : goal.slice_bounds-write_totals-end-2
-slice_bounds-write_totals-end-2 c = sym (length-take-le _ _ (slice_bounds-write_totals-end c))
-
-pub slice_bounds-write_totals-end-3 : goal.slice_bounds-write_totals-end-3
-slice_bounds-write_totals-end-3 c = totals_fit _ _ _ _ _ _ _ _ _ (passes _ _ _ _ _ _ _ _ _ c.in_ok-done.ensures)
-
-pub slice_bounds-write_totals-end-4 : goal.slice_bounds-write_totals-end-4
-slice_bounds-write_totals-end-4 c = sym (length-take-le _ _ (totals_fit _ _ _ _ _ _ _ _ _ (passes _ _ _ _ _ _ _ _ _ c.in_ok-done.ensures)))
+slice_bounds-write_totals-end-2 c = sym (length-take-le _ _ (totals_fit _ _ _ _ _ _ _ _ _ (passes _ _ _ _ _ _ _ _ _ c.in_ok-done.ensures)))
 
 pub write_totals-requires : goal.write_totals-requires
-write_totals-requires c = asks _ _ _ _ _ _ _ _ _ (passes _ _ _ _ _ _ _ _ _ c.in_ok-done.ensures) c.in_ok-read_sweep.ensures.codes
+write_totals-requires c = (asks _ _ _ _ _ _ _ _ _ (passes _ _ _ _ _ _ _ _ _ c.in_ok-done.ensures) c.in_ok-read_sweep.ensures.codes).0
 
 pub returns : goal.returns
 returns c =
     done _ _ _ _ _ _ _ _ _ (passes _ _ _ _ _ _ _ _ _ c.in_ok-done.ensures) c.in_ok-read_sweep.ensures.codes c.in_ok-read_sweep.ensures.azimuths
-    c.in_ok-read_sweep.ensures.physical c.write_totals.ensures
+    c.in_ok-read_sweep.ensures.physical (rw c.from.ensures at c.write_totals.ensures)

@@ -1,24 +1,17 @@
-use native.Mathlib.Omega.{arith}
-use Rattle.fields.proofs.Walk.{outs_first, outs_turn, outs_stop, outs_last, outs_end, here_inside}
+use Rattle.std.proofs.Common.{◌≡◌, sym, ap, ◌∙◌, rules, tests, option_map}
+use Rattle.std.proofs.lemmas.Iterator.Adapters.{option_map_id}
+use Rattle.std.proofs.lemmas.Iterator.Consumers.{YieldsList-from_first}
+use Rattle.std.proofs.lemmas.Iterator.Search.{find_from_yields_List}
+use Rattle.fields.specs.declared.plan.Entry.{Entry}
+use Rattle.fields.specs.declared.plan.Records.{Records}
+use Rattle.fields.specs.Plan.{entries_from, entries_of, leaves}
+use Rattle.fields.proofs.Walk.{outside_found}
 use Rattle.fields.proofs.plan.first_outside.Goals as goal
 
-pub loop-at-init : goal.loop-at-init
-loop-at-init c = outs_first _ _ _
-
-pub returns-then-leaves_grid : goal.returns-then-leaves_grid
-returns-then-leaves_grid c = outs_stop c.loop-at.invariant c.loop-at-test.true c.record_at-r.ensures c.leaves_grid.ensures c.if-leaves_grid.true
-
-pub returns-then-size-eq0 : goal.returns-then-size-eq0
-returns-then-size-eq0 c = outs_last c.loop-at.invariant c.loop-at-test.true c.record_at-r.ensures c.leaves_grid.ensures c.if-leaves_grid.false c.size_of-size.ensures c.if-size-eq0.true
-
-pub overflow_add-at : goal.overflow_add-at
-overflow_add-at c = omega (arith, here_inside _ c.loop-at-test.true c.record_at-r.ensures c.size_of-size.ensures)
-
-pub loop-at-smaller : goal.loop-at-smaller
-loop-at-smaller c = omega (arith, here_inside _ c.loop-at-test.true c.record_at-r.ensures c.size_of-size.ensures, c.if-size-eq0.false)
-
-pub loop-at-preserved : goal.loop-at-preserved
-loop-at-preserved c = outs_turn c.loop-at.invariant c.loop-at-test.true c.record_at-r.ensures c.leaves_grid.ensures c.if-leaves_grid.false c.size_of-size.ensures c.if-size-eq0.false
-
 pub returns : goal.returns
-returns c = outs_end c.loop-at.invariant c.loop-at-test.false
+returns c =
+    let found = find_from_yields_List (λ (e : Entry). leaves c.args.radials c.args.bins e.item) c.find.new.self _ c.find.result c.find.ensures.ran
+    (YieldsList-from_first (λ x. x) (λ (s : Records). entries_from s.plan.now s.at) (entries_of c.args.plan.now) c.records_of.ensures)
+    (λ x r q k. search (rules, tests)) in
+    let mapped : c.map.result ≡ option_map (λ (e : Entry). e.at) c.find.result = search rules in
+    mapped ∙ ap (option_map (λ (e : Entry). e.at)) (sym (option_map_id c.find.result) ∙ found) ∙ outside_found c.args.radials c.args.bins (entries_of c.args.plan.now)

@@ -1,10 +1,6 @@
-use Prim.Native.Nat.{◌-◌}
-use lib.ListN.{length}
+use Rattle.fields.specs.Plan.{entries_from, entries_of}
 use Rattle.fields.proofs.Marking.{Marking}
 use Rattle.fields.proofs.plan.first_repeat.Given as goal
 
-abbrev pub invariant-loop-at : goal.invariant-loop-at
-invariant-loop-at l = Marking l.plan l.marks l.at
-
-abbrev pub decreases-loop-at : goal.decreases-loop-at
-decreases-loop-at l = length l.plan - l.at
+abbrev pub invariant-loop-e : goal.invariant-loop-e
+invariant-loop-e l = Marking (entries_of l.plan) (entries_from l.e-iterator.plan.now l.e-iterator.at) l.marks

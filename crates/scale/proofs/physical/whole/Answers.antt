@@ -4,7 +4,7 @@ use Rattle.scale.proofs.Whole.{whole_bits}
 use Rattle.scale.proofs.physical.whole.Goals as goal
 
 pub float_from_bits-result : goal.float_from_bits-result
-float_from_bits-result c = let l : c.args.n < 65536 = search rules in pattern_number _ (omega arith)
+float_from_bits-result c = let l : c.args.n < 65536 = search rules in pattern_number _ (omega (arith, c.from.ensures))
 
 pub returns : goal.returns
-returns c = whole_bits c.args.n (search rules)
+returns c = rw c.from.ensures (whole_bits c.args.n (search rules))

@@ -4,7 +4,7 @@ use Rattle.scale.specs.Physical.{declared_scale}
 use Rattle.sweep.specs.Sweep.{sweep_with}
 use Rattle.wire.proofs.Results.{returned}
 use lib.ListN.{length-map}
-use Rattle.std.proofs.Common.{sym, refl, ap, ◌∙◌, arith, length-take-le, rules}
+use Rattle.std.proofs.Common.{sym, refl, ap, arith, length-take-le, rules}
 use Rattle.show.proofs.answer.read.Goals as goal
 use Rattle.show.proofs.answer.read.Goals.{In_ok-figures}
 

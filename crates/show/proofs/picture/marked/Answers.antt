@@ -1,15 +1,11 @@
-use Rattle.std.proofs.Common.{rules, arith}
-use Rattle.show.proofs.Gaps.{counted_first, counted_next, counted_end}
+use Rattle.std.proofs.Common.{rules, tests, not, eqb, ◌∙◌}
+use Rattle.std.proofs.lemmas.Iterator.{YieldsList-from_slice}
+use Rattle.std.proofs.lemmas.Iterator.Consumers.{count_from_yields_List, YieldsList-from_filter}
+use Rattle.show.proofs.Gaps.{marked_is}
 use Rattle.show.proofs.picture.marked.Goals as goal
 
-pub loop-mark-init : goal.loop-mark-init
-loop-mark-init c = counted_first _
-
-pub overflow_add-n : goal.overflow_add-n
-overflow_add-n c = search (rules, c.loop-mark.invariant.few, c.one_if-n.ensures.upper_bound)
-
-pub loop-mark-preserved : goal.loop-mark-preserved
-loop-mark-preserved c = counted_next c.loop-mark.invariant (omega arith) c.one_if-n.ensures.value
-
 pub returns : goal.returns
-returns c = counted_end c.loop-mark.invariant (omega arith)
+returns c =
+    count_from_yields_List _ _ c.count.ensures.ran
+    (YieldsList-from_filter _ (λ m. not (eqb m 0)) (YieldsList-from_slice c.args.marks.now cc) c.filter.ensures.closure (λ x b q k. search (rules, tests)))
+    ∙ marked_is c.args.marks.now

@@ -6,4 +6,4 @@ use Rattle.symbology.proofs.centre.azimuth_centre_deg.Goals as goal
 
 pub returns : goal.returns
 unfolding of_bits f64 centre
-returns c = refl
+returns c = rw (c.from-3.ensures, c.from.ensures, c.from-2.ensures) refl

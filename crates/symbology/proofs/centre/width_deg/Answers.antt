@@ -6,4 +6,4 @@ use Rattle.symbology.proofs.centre.width_deg.Goals as goal
 
 pub returns : goal.returns
 unfolding of_bits f32 width_degrees
-returns c = refl
+returns c = rw c.from.ensures refl

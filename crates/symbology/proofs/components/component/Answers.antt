@@ -1,6 +1,5 @@
 use Rattle.wire.proofs.Results.{returned}
 use Rattle.symbology.proofs.Payload.{component_refused, component_at, head_small, plans_as}
-use Rattle.std.proofs.Common.{◌∙◌, sym, ap}
 use Rattle.symbology.proofs.components.component.Goals as goal
 
 pub radials_from-requires : goal.radials_from-requires

@@ -4,7 +4,7 @@ use Rattle.symbology.specs.Symbology.{component}
 use Rattle.symbology.specs.Walk.{in_mode, position}
 use Rattle.wire.specs.Reading.{walk}
 use Rattle.xdr.specs.Xdr.{further}
-use Rattle.std.proofs.Common.{◌≡◌, ◌-◌, ◌+◌, ◌<◌, sym, refl, ap, ◌∙◌, arith}
+use Rattle.std.proofs.Common.{◌≡◌, ◌-◌, sym, ap, ◌∙◌, arith}
 use Rattle.symbology.proofs.components.further_components.Goals as goal
 
 pub loop-init : goal.loop-init

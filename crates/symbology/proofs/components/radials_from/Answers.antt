@@ -5,8 +5,8 @@ use Rattle.symbology.proofs.XdrFrames.{framed}
 use Rattle.std.proofs.Common.{refl}
 use Rattle.symbology.proofs.components.radials_from.Goals as goal
 
-pub plan_radials-requires : goal.plan_radials-requires
-plan_radials-requires c = let f = framed _ 0 _ _ _ _ _ (rw c.from.ensures at c.in_ok-first.ensures.answered) in (c.requires.1, f.cells refl)
+pub invariant_of-plan_radials-clause-fits : goal.invariant_of-plan_radials-clause-fits
+invariant_of-plan_radials-clause-fits c = (framed _ 0 _ _ _ _ _ (rw c.from.ensures at c.in_ok-first.ensures.answered)).cells refl
 
 pub returns-in_err-first : goal.returns-in_err-first
 returns-in_err-first c = rw (returned c.from_residual.ensures.1) (radials_refused _ _ _ _ _ _ (rw c.from.ensures at c.in_err-first.ensures.answered))

@@ -1,6 +1,5 @@
 use Rattle.wire.proofs.Results.{returned}
 use Rattle.symbology.proofs.Payload.{block_halted, count_halted, count_passed, plans_as}
-use Rattle.std.proofs.Common.{sym, ap, ◌∙◌}
 use Rattle.symbology.proofs.components.read_payload.Goals as goal
 
 pub returns-in_err-product_block : goal.returns-in_err-product_block

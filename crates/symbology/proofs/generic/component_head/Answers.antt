@@ -1,11 +1,9 @@
-use Rattle.std.proofs.Common.{rules, arith, refl, sym, ap, ◌∙◌, ◌*◌, ◌≤◌, ◌<◌, mul-le-mul, to_z-of_z, w32, lt-ltb, le-ltb, Some, None}
+use Rattle.std.proofs.Common.{rules, sym, ap, ◌∙◌, to_z-of_z, w32}
 use Rattle.wire.proofs.Results.{returned}
-use Rattle.wire.specs.Reading.{give, ◌>>◌}
-use Rattle.wire.specs.declared.error.XdrItem.TheVariants as Item
 use Rattle.xdr.specs.Xdr as Xdr
 use Rattle.xdr.specs.Xdr.{pass, int, string, array_count, at_least0, counted, parameter}
 use Rattle.xdr.proofs.Chains.{given, go_on, go_no, by_on, by_no, past_on, past_no, let_on, let_no}
-use Rattle.std.proofs.Common.{◌≡◌, ℕ, Bool, true, false, not, eqb, [], ◌∷◌, eq-eqb, ne_eqb}
+use Rattle.std.proofs.Common.{◌≡◌, ℕ, true, false, not, eqb, [], ◌∷◌, eq-eqb, ne_eqb}
 use Rattle.wire.specs.Refusal.{kind, nat, whole}
 use Rattle.symbology.specs.Symbology.{component_head}
 use Rattle.symbology.proofs.generic.component_head.Goals as goal

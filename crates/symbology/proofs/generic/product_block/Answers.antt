@@ -1,10 +1,7 @@
-use Rattle.std.proofs.Common.{rules, arith, refl, sym, ap, ◌∙◌, ◌*◌, ◌≤◌, ◌<◌, mul-le-mul, to_z-of_z, w32, lt-ltb, le-ltb, Some, None}
 use Rattle.wire.proofs.Results.{returned}
-use Rattle.wire.specs.Reading.{give, ◌>>◌}
 use Rattle.wire.specs.declared.error.XdrItem.TheVariants as Item
-use Rattle.xdr.specs.Xdr as Xdr
-use Rattle.xdr.specs.Xdr.{pass, int, string, array_count, at_least0, counted, parameter}
-use Rattle.xdr.proofs.Chains.{given, go_on, go_no, by_on, by_no, end_given}
+use Rattle.xdr.specs.Xdr.{pass, string, counted, parameter}
+use Rattle.xdr.proofs.Chains.{by_on, by_no, end_given}
 use Rattle.symbology.specs.Symbology.{product_block}
 use Rattle.symbology.proofs.generic.product_block.Goals as goal
 

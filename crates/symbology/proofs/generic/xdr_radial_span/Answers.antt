@@ -1,6 +1,6 @@
-use Rattle.symbology.proofs.XdrFrames.{Framed, framed, span_whole, span_halted}
+use Rattle.symbology.proofs.XdrFrames.{framed, span_whole, span_halted}
 use Rattle.wire.proofs.Results.{returned}
-use Rattle.std.proofs.Common.{rules, refl, sym, ap, ◌∙◌, ◌+◌, ◌*◌, arith}
+use Rattle.std.proofs.Common.{arith}
 use Rattle.symbology.proofs.generic.xdr_radial_span.Goals as goal
 
 pub returns-in_err-radial : goal.returns-in_err-radial

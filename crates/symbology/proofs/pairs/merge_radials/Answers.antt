@@ -3,7 +3,7 @@ use Rattle.symbology.proofs.Merging.{merging_first, merging_both, merging_room, 
 use Rattle.symbology.proofs.pairs.merge_radials.Goals as goal
 
 pub loop-r-init : goal.loop-r-init
-loop-r-init c = (c.requires.n_radials_bound.1, c.requires.n_radials_bound.2, merging_first _ _ _ _ _ _ _ _ _ _ c.requires.n_radials_bound.1 c.requires.n_radials_bound.2 c.requires.n_radials_in_bounds.0 c.requires.n_radials_in_bounds.1 c.requires.n_radials_in_bounds.2)
+loop-r-init c = (c.requires.both_accepted.0, c.requires.both_accepted.1, merging_first _ _ _ _ _ _ _ _ _ _ c.requires.both_accepted.0 c.requires.both_accepted.1 c.requires.n_radials_in_bounds.0 c.requires.n_radials_in_bounds.1 c.requires.n_radials_in_bounds.2)
 
 pub overflow_add-end : goal.overflow_add-end
 overflow_add-end c = let h = merging_room _ _ _ _ _ c.loop-r.invariant.2 c.loop-r-test.true in record { fits = omega (arith, h.1) }
@@ -21,7 +21,7 @@ pub bounds-marks-r : goal.bounds-marks-r
 bounds-marks-r c = (merging_room _ _ _ _ _ c.loop-r.invariant.2 c.loop-r-test.true).2
 
 pub loop-r-preserved : goal.loop-r-preserved
-loop-r-preserved c = let part = merging_part _ _ _ _ _ c.loop-r.invariant.2 c.loop-r-test.true in (c.loop-r.invariant.0, c.loop-r.invariant.1, merging_next _ _ _ _ _ c.loop-r.invariant.2 c.loop-r-test.true (rw part at c.merge_radial-merged.ensures.first_value) (rw part at c.merge_radial-merged.ensures.second_value) (rw part at c.merge_radial-merged.ensures.mark_value) (rw part at c.merge_radial-merged.ensures.row_after))
+loop-r-preserved c = (c.loop-r.invariant.0, c.loop-r.invariant.1, merging_next _ _ _ _ _ c.loop-r.invariant.2 c.loop-r-test.true c.merge_radial-merged.ensures.first_value c.merge_radial-merged.ensures.second_value c.merge_radial-merged.ensures.mark_value c.merge_radial-merged.ensures.row_after)
 
 pub returns : goal.returns
-returns c = rw (c.loop-r.invariant.0.1, c.loop-r.invariant.1.1) (record { azimuths_after = merging_centres _ _ _ _ _ c.loop-r.invariant.2 c.loop-r-test.false; codes_after = merging_rows _ _ _ _ _ c.loop-r.invariant.2 c.loop-r-test.false; marks_after = merging_marks _ _ _ _ _ c.loop-r.invariant.2 c.loop-r-test.false })
+returns c = rw (c.loop-r.invariant.0.1, c.loop-r.invariant.1.1) (record { azimuths_after = merging_centres _ _ _ _ _ c.loop-r.invariant.2 (omega arith); codes_after = merging_rows _ _ _ _ _ c.loop-r.invariant.2 (omega arith); marks_after = merging_marks _ _ _ _ _ c.loop-r.invariant.2 (omega arith) })

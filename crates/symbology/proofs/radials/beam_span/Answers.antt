@@ -9,8 +9,8 @@ returns-then-is_width_wrong c = beam_wide _ _ _ _ _ _ c.remaining-have.ensures c
 
 pub returns-then-is_count_wrong : goal.returns-then-is_count_wrong
 returns-then-is_count_wrong c =
-    beam_wrong _ _ _ _ _ _ c.remaining-have.ensures c.if-have-lt6.false c.u16_at-count.ensures c.u16_at-width.ensures c.is_width_wrong.ensures c.if-is_width_wrong.false
-    c.is_count_wrong.ensures c.if-is_count_wrong.true
+    rw c.from.ensures (beam_wrong _ _ _ _ _ _ c.remaining-have.ensures c.if-have-lt6.false c.u16_at-count.ensures c.u16_at-width.ensures c.is_width_wrong.ensures c.if-is_width_wrong.false
+    c.is_count_wrong.ensures c.if-is_count_wrong.true)
 
 pub returns : goal.returns
 returns c =

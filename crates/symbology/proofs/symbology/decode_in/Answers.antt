@@ -17,7 +17,7 @@ pub slice_bounds-write_radials-end : goal.slice_bounds-write_radials-end
 slice_bounds-write_radials-end c = c.in_ok-plan.ensures.inside
 
 pub write_radials-requires : goal.write_radials-requires
-write_radials-requires c = let p = c.in_ok-plan.ensures in let room = admit_room _ _ _ _ (was_passed _ _ p) in (record { n_radials_bound = (p.small, (p.radials, radials_there _ _ p)); n_radials_in_bounds = (room.0, room.1, marks_room _ _ _ (sym c.no_marks.ensures ∙ c.if-no_marks.false)) })
+write_radials-requires c = let p = c.in_ok-plan.ensures in let room = admit_room _ _ _ _ (was_passed _ _ p) in (record { radials_accepted = (p.radials, radials_there _ _ p); n_radials_in_bounds = (room.0, room.1, marks_room _ _ _ (sym c.no_marks.ensures ∙ c.if-no_marks.false)) })
 
 pub returns-in_err-plan : goal.returns-in_err-plan
 returns-in_err-plan c = rw (returned c.from_residual.ensures.1) (in_refused _ _ _ _ _ _ _ c.in_err-plan.ensures)

@@ -26,7 +26,7 @@ pub slice_bounds-merge_parts-end-2 : goal.slice_bounds-merge_parts-end-2
 slice_bounds-merge_parts-end-2 c = c.in_ok-q.ensures.inside
 
 pub merge_parts-requires : goal.merge_parts-requires
-merge_parts-requires c = let p = c.in_ok-p.ensures in let q = c.in_ok-q.ensures in (p.small, p.cells, first_radials _ _ _ c.args.azimuths.now c.args.codes.now c.args.marks.now p q c.same_figures.ensures (ap not c.if-not-same_figures.false), second_radials _ _ _ c.args.azimuths.now c.args.codes.now c.args.marks.now p q c.same_figures.ensures (ap not c.if-not-same_figures.false))
+merge_parts-requires c = let p = c.in_ok-p.ensures in let q = c.in_ok-q.ensures in (first_radials _ _ _ c.args.azimuths.now c.args.codes.now c.args.marks.now p q c.same_figures.ensures (ap not c.if-not-same_figures.false), second_radials _ _ _ c.args.azimuths.now c.args.codes.now c.args.marks.now p q c.same_figures.ensures (ap not c.if-not-same_figures.false))
 
 pub returns-in_err-p : goal.returns-in_err-p
 returns-in_err-p c = rw (returned c.from_residual.ensures.1) (first_refused _ _ _ _ _ _ c.in_err-p.ensures)

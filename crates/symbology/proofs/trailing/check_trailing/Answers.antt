@@ -1,5 +1,4 @@
 use Rattle.std.proofs.Common.{[], ◌∷◌, sym, refl, ◌∙◌}
-use Rattle.wire.specs.Text.{same}
 use Rattle.symbology.proofs.Ending.{part_long, ends_as, ends_other}
 use Rattle.symbology.proofs.trailing.check_trailing.Goals as goal
 

@@ -6,4 +6,4 @@ pub returns-in_err-next : goal.returns-in_err-next
 returns-in_err-next c = rw (returned c.from_residual.ensures.1) (plan_refused _ _ _ _ c.in_err-next.ensures)
 
 pub returns : goal.returns
-returns c = plan_value _ _ _ _ c.requires c.in_ok-next.ensures
+returns c = plan_value _ _ _ _ c.in_ok-next.ensures

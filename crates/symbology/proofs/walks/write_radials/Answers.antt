@@ -4,7 +4,7 @@ use Rattle.symbology.proofs.Writing.{written_first, written_radial, written_room
 use Rattle.symbology.proofs.walks.write_radials.Goals as goal
 
 pub loop-radial-init : goal.loop-radial-init
-loop-radial-init c = (c.requires.n_radials_bound.1, (written_first _ _ _ _ _ _ _ _ c.requires.n_radials_bound.1 c.requires.n_radials_in_bounds.0 c.requires.n_radials_in_bounds.1, marks_first _ _ _ _ _ _ _ c.requires.n_radials_bound.1 c.requires.n_radials_in_bounds.2))
+loop-radial-init c = (c.requires.radials_accepted, (written_first _ _ _ _ _ _ _ _ c.requires.radials_accepted c.requires.n_radials_in_bounds.0 c.requires.n_radials_in_bounds.1, marks_first _ _ _ _ _ _ _ c.requires.radials_accepted c.requires.n_radials_in_bounds.2))
 
 pub overflow_add-end : goal.overflow_add-end
 overflow_add-end c = let h = written_room _ _ _ _ _ c.loop-radial.invariant.1.0 c.loop-radial-test.true in record { fits = omega (arith, h.1) }
@@ -22,7 +22,7 @@ pub put_mark-requires : goal.put_mark-requires
 put_mark-requires c = marks_room _ _ _ _ _ c.loop-radial.invariant.1.1 c.loop-radial-test.true
 
 pub loop-radial-preserved : goal.loop-radial-preserved
-loop-radial-preserved c = let part = written_part _ _ _ _ _ c.loop-radial.invariant.1.0 c.loop-radial-test.true in let e₀ = rw part at c.write_radial-w.ensures.next_value in (c.loop-radial.invariant.0, (written_next _ _ _ _ _ c.loop-radial.invariant.1.0 c.loop-radial-test.true e₀ (rw part at c.write_radial-w.ensures.row_after), marks_next _ _ _ _ _ c.loop-radial.invariant.1.1 c.loop-radial-test.true e₀ (rw part at c.write_radial-w.ensures.mark_value) c.put_mark.ensures))
+loop-radial-preserved c = let e₀ = c.write_radial-w.ensures.next_value in (c.loop-radial.invariant.0, (written_next _ _ _ _ _ c.loop-radial.invariant.1.0 c.loop-radial-test.true e₀ c.write_radial-w.ensures.row_after, marks_next _ _ _ _ _ c.loop-radial.invariant.1.1 c.loop-radial-test.true e₀ c.write_radial-w.ensures.mark_value c.put_mark.ensures))
 
 pub returns : goal.returns
-returns c = rw c.loop-radial.invariant.0.1 (record { azimuths_after = written_centres _ _ _ _ _ c.loop-radial.invariant.1.0 c.loop-radial-test.false; codes_after = written_rows _ _ _ _ _ c.loop-radial.invariant.1.0 c.loop-radial-test.false; marks_after = marks_end _ _ _ _ _ c.loop-radial.invariant.1.1 c.loop-radial-test.false })
+returns c = rw c.loop-radial.invariant.0.1 (record { azimuths_after = written_centres _ _ _ _ _ c.loop-radial.invariant.1.0 (omega arith); codes_after = written_rows _ _ _ _ _ c.loop-radial.invariant.1.0 (omega arith); marks_after = marks_end _ _ _ _ _ c.loop-radial.invariant.1.1 (omega arith) })

@@ -12,13 +12,13 @@ loop-to-init c =
     rw (e, r) (adding_first c.requires.0 c.requires.1)
 
 pub overflow_mul-sum : goal.overflow_mul-sum
-overflow_mul-sum c = omega (arith, product_fits c.loop-to.invariant c.in-Some.ensures.steps (c.saturating_sub-part.ensures ∙ ap (λ n. n - c.loop-to.from) c.min.ensures))
+overflow_mul-sum c = rw c.from-rate.ensures (omega (arith, product_fits c.loop-to.invariant c.in-Some.ensures.steps (c.saturating_sub-part.ensures ∙ ap (λ n. n - c.loop-to.from) c.min.ensures)))
 
 pub overflow_add-sum : goal.overflow_add-sum
-overflow_add-sum c = omega (arith, sum_fits c.loop-to.invariant c.in-Some.ensures.steps (c.saturating_sub-part.ensures ∙ ap (λ n. n - c.loop-to.from) c.min.ensures))
+overflow_add-sum c = rw c.from-rate.ensures (omega (arith, sum_fits c.loop-to.invariant c.in-Some.ensures.steps (c.saturating_sub-part.ensures ∙ ap (λ n. n - c.loop-to.from) c.min.ensures)))
 
 pub loop-to-preserved : goal.loop-to-preserved
-loop-to-preserved c = adding_next c.loop-to.invariant c.in-Some.ensures.steps (c.saturating_sub-part.ensures ∙ ap (λ n. n - c.loop-to.from) c.min.ensures)
+loop-to-preserved c = rw c.from-rate.ensures (adding_next c.loop-to.invariant c.in-Some.ensures.steps (c.saturating_sub-part.ensures ∙ ap (λ n. n - c.loop-to.from) c.min.ensures))
 
 pub returns : goal.returns
 returns c = adding_end c.loop-to.invariant (⊎_elim (λ h. inl h.1.0) (λ h. inr h.1.0) c.in-None.ensures.steps)

@@ -1,4 +1,4 @@
-use Rattle.std.proofs.Common.{rules, arith, length, List, [], ◌∷◌, ℕ, ◌≡◌, refl, sym, ap, ◌∙◌, eq-eqb}
+use Rattle.std.proofs.Common.{arith, length, List, [], ◌∷◌, ℕ, ◌≡◌, refl, sym, ap, ◌∙◌, eq-eqb}
 use borrow.Author.Tests.{ne_eqb}
 use Rattle.wire.specs.Text.{is_zero, trim_end}
 use Rattle.wire.proofs.Ends.{trim_last, trim_done}
