@@ -53,7 +53,8 @@ impl<'a> Grid<'a> {
     // A strip's total, over the codes of its cells.
     fn strip_total(&self, radial: u16, gate: u16, count: u16, weight: u16) -> u64
         requires { leaves self.now.radials self.now.bins (Strip radial gate count weight) ≡ false }
-        ensures { (result ≡ strip_total (grid self.now.codes.now self.now.bins self.now.floor self.now.ceiling) radial gate count weight) × (result ≤ most) }
+        ensures { (result ≡ strip_total (grid self.now.codes.now self.now.bins self.now.floor self.now.ceiling) radial gate count weight)
+            × (result ≤ most) }
     {
         let start = usize::from(radial) * self.bins + usize::from(gate);
         let end = start + usize::from(count);
