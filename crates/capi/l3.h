@@ -7,7 +7,7 @@
  *
  * What is returned:
  *   0        accepted (l3_known: 1 for a known code, else 0)
- *   1 to 44  refused; the number is the one of the README's table
+ *   1 to 46  refused; the number is the one of the README's table
  *   100      L3_SHORT_REPORT: ints has fewer than L3_INTS places (24), or floats fewer than L3_FLOATS (8)
  *   101      L3_BAD_ARGUMENT: an argument that the function does not take: an unknown scheme, kind or item, an array of a length that is
  *            not the one asked for
@@ -113,8 +113,17 @@ uint32_t l3_sweep(const uint8_t *file, size_t file_len, uint64_t clock, uint32_t
                   uint16_t *codes, size_t codes_len, float *physical, size_t physical_len,
                   int64_t *ints, size_t ints_len, double *floats, size_t floats_len);
 
-/* The same with gaps: a radial that l3_sweep refuses with 22 or 34 gives a row of codes 0 and values NaN, and reading goes on at the next.
- * A mark for each radial is written to marks: 1 for a gap, 0 for a whole row. All other refusals are those of l3_sweep, in their order; a
+/* The same for an archive: a body that carries stray bytes is refused. All run lengths of a radial of packet AF1F, zero ones too, must
+ * sum to exactly the number of bins, and the count of one of packet 16 must be that number or, where it is odd, one more; else 45, with
+ * the lowest such radial in ints[0]. The body must end with its last radial, a clear scan at byte 30, packet 28 with its payload; else
+ * 46. Both come after all refusals of the body and before 10. What is accepted gets the answer of l3_sweep. */
+uint32_t l3_strict(const uint8_t *file, size_t file_len, uint64_t clock, uint32_t scheme, float parameter,
+                   const uint8_t *body, size_t body_len, double *azimuths, size_t azimuths_len,
+                   uint16_t *codes, size_t codes_len, float *physical, size_t physical_len,
+                   int64_t *ints, size_t ints_len, double *floats, size_t floats_len);
+
+/* The same as l3_sweep with gaps: a radial that l3_sweep refuses with 22 or 34 gives a row of codes 0 and values NaN, and reading goes
+ * on at the next. A mark for each radial is written to marks: 1 for a gap, 0 for a whole row. All other refusals are those of l3_sweep, in their order; a
  * marks of fewer places than radials is 36, after the other buffers. */
 uint32_t l3_gaps(const uint8_t *file, size_t file_len, uint64_t clock, uint32_t scheme, float parameter,
                  const uint8_t *body, size_t body_len, double *azimuths, size_t azimuths_len,

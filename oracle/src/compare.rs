@@ -14,6 +14,7 @@ mod exports;
 mod fixed;
 mod merges;
 mod plans;
+mod strict;
 
 /// How many were accepted and how many refused.
 #[derive(Debug, Clone, Copy, Default)]
@@ -49,6 +50,9 @@ pub struct Counts {
     /// Readings of clear scans, and bodies held to one that agrees with them on the bytes that are read.
     pub clear: [[Split; 5]; 3],
     pub clear_alike: u64,
+    /// Readings by the archive profile whose body names the packet, and exports held to the ordinary reading of them.
+    pub strict: [[Split; 5]; 3],
+    pub strict_exports: u64,
     pub exports: Split,
     /// Written bodies read again, and sweep readings of them held to the original's.
     pub export_laws: [u64; 2],
@@ -110,6 +114,7 @@ impl Compare {
         let place_in = match case {
             Case::Token { file }
             | Case::Sweep { file, .. }
+            | Case::Strict { file, .. }
             | Case::Gaps { file, .. }
             | Case::Merge { file, .. }
             | Case::Plan { file, .. } => Some(file),
@@ -133,7 +138,11 @@ impl Compare {
     fn raw(&mut self, case: &Case, answer: &Answer, raw: [i64; 4]) -> Option<String> {
         let (file, block) = match case {
             Case::Pdb { file, block } => (file, *block),
-            Case::Sweep { file, .. } | Case::Gaps { file, .. } | Case::Merge { file, .. } | Case::Plan { file, .. } => {
+            Case::Sweep { file, .. }
+            | Case::Strict { file, .. }
+            | Case::Gaps { file, .. }
+            | Case::Merge { file, .. }
+            | Case::Plan { file, .. } => {
                 (file, model::header_place(file).map_or(0, |header| header + 18))
             }
             _ => return Some("a description record".into()),
@@ -341,7 +350,8 @@ impl Compare {
     pub fn random(&mut self, seed: u64, number: u64) {
         let rng = &mut Rng::new(seed, number);
         let case = match rng.below(100) {
-            0..=27 => cases::sweep(rng),
+            0..=23 => cases::sweep(rng),
+            24..=27 => return self.strict(&cases::strict(rng)),
             28..=30 => return self.export(rng),
             31..=34 => return drop(self.merge(&cases::merge(rng))),
             35 | 36 => return self.receptions(rng),
@@ -427,6 +437,7 @@ impl Counts {
             self.exports.count(answer);
         }
         if let Case::Sweep { scheme, body, .. }
+        | Case::Strict { scheme, body, .. }
         | Case::Gaps { scheme, body, .. }
         | Case::Merge { scheme, body, .. }
         | Case::Plan { scheme, body, .. } = case
@@ -438,6 +449,7 @@ impl Counts {
                 _ => return,
             };
             let table = match case {
+                Case::Strict { .. } => &mut self.strict,
                 Case::Gaps { .. } => &mut self.gaps,
                 Case::Merge { .. } => &mut self.merges,
                 Case::Plan { .. } => &mut self.plans,
@@ -485,6 +497,9 @@ impl Counts {
             if self.plans[packet as usize][2].accepted == 0 {
                 missing.push(format!("a plan of packet {}", packet.name()));
             }
+            if self.strict[packet as usize].iter().all(|split| split.accepted == 0) {
+                missing.push(format!("a body of packet {} for the archive", packet.name()));
+            }
             if packet != Packet::P16 && self.with_gap[packet as usize] == 0 {
                 missing.push(format!("a gap in packet {}", packet.name()));
             }
@@ -523,6 +538,8 @@ impl Counts {
         let (Split { accepted, refused }, [read, swept]) = (self.exports, self.export_laws);
         println!("exports, accepted / refused: {accepted} / {refused}; read again {read}, in sweep readings {swept}");
         println!("description records with the whole numbers of the file: {}", self.records);
+        print_table("readings by the archive profile by packet and scheme, accepted / refused:", &self.strict);
+        println!("  of what was exported: {}", self.strict_exports);
         let missing = self.missing();
         if !missing.is_empty() {
             println!("did not occur: {}", missing.join(", "));

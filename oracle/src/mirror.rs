@@ -13,6 +13,7 @@ mod clear;
 mod exports;
 mod merges;
 mod plans;
+mod strict;
 
 macro_rules! slips {
     ($($name:ident,)*) => {
@@ -189,6 +190,22 @@ slips! {
     GapValuesStay,
     MarkStays,
     BothGapsUnmarked,
+    StrictCountPasses,
+    StrictEvenMorePasses,
+    StrictOddMoreRefused,
+    StrictOddMoreIsZero,
+    StrictZeroRunCounts,
+    StrictRunsAfterRowPass,
+    StrictLastRadialNamed,
+    StrictEndFirst,
+    StrictTailPasses,
+    StrictTailBytePasses,
+    StrictClearTailPasses,
+    StrictPayloadTailPasses,
+    StrictAfter10,
+    StrictAfterRoom,
+    StrictBeforeLaterRadial,
+    StrictRefusalWrites,
 }
 
 /// 1 + the slip's place in `SLIPS`, or 0.
@@ -207,6 +224,7 @@ fn slips(slip: Slip) -> bool {
 pub fn entries() -> Entries {
     Entries {
         sweep,
+        strict,
         gaps,
         merge,
         totals,
@@ -360,8 +378,9 @@ unsafe fn reported(
 /// File, clock, scheme and its parameter, body, and a plan or a second body: what a sweep is read from.
 type Input = (Vec<u8>, u64, (u32, f32), Vec<u8>, Option<Vec<u8>>);
 
-/// Where a picture goes, its marks with gaps, and the totals of a plan.
+/// Where a picture goes, its marks with gaps, and the totals of a plan; and whether it is read by the archive profile.
 struct Places<'a> {
+    strict: bool,
     azimuths: &'a mut [f64],
     codes: &'a mut [u16],
     physical: &'a mut [f32],
@@ -395,6 +414,7 @@ macro_rules! sweep_entry {
         ) -> u32 {
             #[allow(unused_mut)]
             let mut places = Places {
+                strict: stringify!($name) == "strict",
                 azimuths: from_raw_parts_mut(azimuths, azimuths_len),
                 codes: from_raw_parts_mut(codes, codes_len),
                 physical: from_raw_parts_mut(physical, physical_len),
@@ -410,6 +430,7 @@ macro_rules! sweep_entry {
 }
 
 sweep_entry!(sweep(;));
+sweep_entry!(strict(;));
 sweep_entry!(gaps(; marks: u8, marks_len));
 sweep_entry!(merge(second, second_len; marks: u8, marks_len));
 sweep_entry!(totals(plan, plan_len; totals: u64, totals_len));
@@ -428,10 +449,14 @@ fn reading((file, clock, (scheme, parameter), body, plan): Input, mut places: Pl
             let case = case.with_marks(marks.len());
             slipped(&case, answer(&case))
         }
+        _ if places.strict => strict::read(&case),
         _ => slipped(&case, answer(&case)),
     };
     match given {
         Answer::Refused(r) => {
+            if let (true, 45, Some(first)) = (slips(StrictRefusalWrites), r.number, places.codes.first_mut()) {
+                *first = 1;
+            }
             if let (true, Some([first, ..])) = (slips(RefusalWritesTotals), &mut places.totals) {
                 *first = 0;
             }

@@ -2,13 +2,15 @@
 //! header and the fields stand, what a code's physical value is, where a body's radials stand, which of its bytes are data or
 //! unread, and what row a radial's data make or that they make none; and of document 02 the centres, the gaps, the dates,
 //! the count of levels, the charges, the clear scans, the whole numbers of the description record and, in plans.rs, the field
-//! plans; in merges.rs two receptions merged; in tenths.rs how close the tenths are, and in export.rs what is exported.
+//! plans; in merges.rs two receptions merged; in strict.rs the archive profile; in tenths.rs how close the tenths are, and in
+//! export.rs what is exported.
 use lines::{Answer, Date, Packet, Picture, Refusal, Scheme, Sweep};
 use std::ops::Range;
 
 pub mod export;
 pub mod merges;
 pub mod plans;
+pub mod strict;
 pub mod tenths;
 
 /// The codes of the products.

@@ -11,9 +11,9 @@
 //! | l3_scan_time | 0 time | |
 //! | l3_date | 0 year, 1 month, 2 day | |
 //! | l3_field | 0 value | 0, 1 the pair |
-//! | l3_pdb, l3_sweep, l3_gaps, l3_merge, l3_totals | 0 token's place (0 in l3_pdb), 1 product code, 2 vcp, 3 days, 4 seconds, 5 time (0 in l3_pdb); 16, 17 latitude and longitude in thousandths, 18 height in feet, 19 elevation in tenths; 20-23 0 | 0-3 latitude, longitude, height, elevation |
-//! | l3_symbology, l3_sweep, l3_gaps, l3_merge, l3_totals | 6 packet (16, 44831 for AF1F, 28), 7 radials, 8 bins, 9 range scale or 0 | 4, 5 gate width, first gate or 0 |
-//! | l3_sweep, l3_gaps, l3_merge, l3_totals | 10 whether a scale is declared, 11 level count, 12 floor | 6, 7 minimum, step |
+//! | l3_pdb, l3_sweep, l3_strict, l3_gaps, l3_merge, l3_totals | 0 token's place (0 in l3_pdb), 1 product code, 2 vcp, 3 days, 4 seconds, 5 time (0 in l3_pdb); 16, 17 latitude and longitude in thousandths, 18 height in feet, 19 elevation in tenths; 20-23 0 | 0-3 latitude, longitude, height, elevation |
+//! | l3_symbology, l3_sweep, l3_strict, l3_gaps, l3_merge, l3_totals | 6 packet (16, 44831 for AF1F, 28), 7 radials, 8 bins, 9 range scale or 0 | 4, 5 gate width, first gate or 0 |
+//! | l3_sweep, l3_strict, l3_gaps, l3_merge, l3_totals | 10 whether a scale is declared, 11 level count, 12 floor | 6, 7 minimum, step |
 //! | l3_totals | 14 the number of fields | |
 //! | l3_export16 | 0 the length of what was written | |
 //! | l3_linear, l3_float | 11 level count | 6, 7 minimum, step |
@@ -52,6 +52,11 @@ macro_rules! entries {
 
 entries! {
     sweep: l3_sweep(
+        file: *const u8, file_len: usize, clock: u64, scheme: u32, parameter: f32, body: *const u8, body_len: usize,
+        azimuths: *mut f64, azimuths_len: usize, codes: *mut u16, codes_len: usize, physical: *mut f32, physical_len: usize,
+        ints: *mut i64, ints_len: usize, floats: *mut f64, floats_len: usize,
+    );
+    strict: l3_strict(
         file: *const u8, file_len: usize, clock: u64, scheme: u32, parameter: f32, body: *const u8, body_len: usize,
         azimuths: *mut f64, azimuths_len: usize, codes: *mut u16, codes_len: usize, physical: *mut f32, physical_len: usize,
         ints: *mut i64, ints_len: usize, floats: *mut f64, floats_len: usize,
@@ -157,10 +162,12 @@ pub const READS: [FieldKind; 3] = [FieldKind::U16, FieldKind::I16, FieldKind::I3
 /// Places past the end of what is lent, which nothing may write to.
 const GUARD: usize = 8;
 
-/// What goes in with a sweep's input: nothing more, as many marks, a second body and as many marks, or a plan and as many totals.
+/// What goes in with a sweep's input: nothing more, or nothing more by the archive profile, as many marks, a second body and as many
+/// marks, or a plan and as many totals.
 #[derive(Clone, Copy)]
 enum Beside<'a> {
     Nothing,
+    NothingStrict,
     Marks(usize),
     Second(&'a [u8], usize),
     Plan(&'a [u8], usize),
@@ -271,6 +278,9 @@ impl Port {
         let answer = match case {
             Case::Sweep { clock, scheme, lent, file, body } => {
                 self.sweep(*clock, *scheme, (*lent, Beside::Nothing), file, body)
+            }
+            Case::Strict { clock, scheme, lent, file, body } => {
+                self.sweep(*clock, *scheme, (*lent, Beside::NothingStrict), file, body)
             }
             Case::Gaps { clock, scheme, lent, marks, file, body } => {
                 self.sweep(*clock, *scheme, (*lent, Beside::Marks(*marks)), file, body)
@@ -495,12 +505,13 @@ impl Port {
         [&sweeps[..], &others].concat()
     }
 
-    /// The sweep reading, with marks the gap reading, with a second body both merged, with a plan that of its totals.
+    /// The sweep reading, that by the archive profile, with marks the gap reading, with a second body both merged, with a plan that of
+    /// its totals.
     fn sweep(&mut self, clock: i128, scheme: Scheme, lent: (Lent, Beside), file: &[u8], body: &[u8]) -> Answer {
         let (lent, beside) = lent;
         self.lend(lent);
         match beside {
-            Beside::Nothing => {}
+            Beside::Nothing | Beside::NothingStrict => {}
             Beside::Marks(marks) | Beside::Second(_, marks) => {
                 self.marks.lend(marks.min(Lent::MOST.azimuths), pattern8);
             }
@@ -543,7 +554,7 @@ impl Port {
         let (token, fields, time) = (self.token_at(file), self.fields(), self.ints[5]);
         let sweep = Box::new(Sweep { token, fields, time, scale, picture, physical });
         match beside {
-            Beside::Nothing => Answer::Sweep(sweep),
+            Beside::Nothing | Beside::NothingStrict => Answer::Sweep(sweep),
             Beside::Marks(_) | Beside::Second(..) => Answer::Gaps(sweep, self.marks.memory[..marked].to_vec()),
             Beside::Plan(..) => Answer::Totals(sweep, self.totals.memory[..totalled].to_vec()),
         }
@@ -806,6 +817,7 @@ impl Port {
         unsafe {
             match beside {
                 Beside::Nothing => call!(sweep(;)),
+                Beside::NothingStrict => call!(strict(;)),
                 Beside::Marks(_) => call!(gaps(; marks)),
                 Beside::Second(second, _) => {
                     let second_at = self.plan.place(second);
@@ -1121,6 +1133,30 @@ impl<'a> Timed<'a> {
         }
     }
 
+    pub fn strict(&mut self) -> u32 {
+        unsafe {
+            (self.entries.strict)(
+                self.file.as_ptr(),
+                self.file.len(),
+                self.clock,
+                self.scheme.index() as u32,
+                self.scheme.parameter(),
+                self.body.as_ptr(),
+                self.body.len(),
+                self.azimuths.as_mut_ptr(),
+                self.azimuths.len(),
+                self.codes.as_mut_ptr(),
+                self.codes.len(),
+                self.physical.as_mut_ptr(),
+                self.physical.len(),
+                self.ints.as_mut_ptr(),
+                INTS,
+                self.floats.as_mut_ptr(),
+                FLOATS,
+            )
+        }
+    }
+
     pub fn gaps(&mut self) -> u32 {
         unsafe {
             (self.entries.gaps)(
@@ -1244,8 +1280,9 @@ const CLEAR: [u8; 30] = {
 };
 
 /// The readings of a sweep, with a plan, marks or a second body that stand for any.
-const SWEEPS: [(&str, Beside); 4] = [
+const SWEEPS: [(&str, Beside); 5] = [
     ("l3_sweep", Beside::Nothing),
+    ("l3_strict", Beside::NothingStrict),
     ("l3_gaps", Beside::Marks(0)),
     ("l3_merge", Beside::Second(&[], 0)),
     ("l3_totals", Beside::Plan(&[], 0)),

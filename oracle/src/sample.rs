@@ -860,6 +860,67 @@ pub fn exports() -> Vec<(String, Case)> {
     list.0
 }
 
+/// M-112: bodies with and without surplus, each bound of 45 and 46, and their place among the other refusals.
+pub fn strict() -> Vec<(String, Case)> {
+    let mut list = List(vec![]);
+    let tail = |body: Vec<u8>, more: &[u8]| [&body[..], more].concat();
+    let (full, over) = ((1, 0, 10, &[0x31, 0x25][..]), (2, 0, 10, &[0x31, 0x25, 0x00, 0x10][..]));
+    let rays = || p28(&[Ray(10.0, 1.0, 2, &[1, 2]), Ray(11.0, 1.0, 2, &[3, 4])]);
+    for (name, body) in [
+        // packet 16: the count
+        ("16_even", p16(4, &[(4, 0, 10, &[1, 2, 3, 4])])),
+        ("16_even_more", p16(4, &[(5, 0, 10, &[1, 2, 3, 4, 0])])),
+        ("16_odd", p16(3, &[(3, 0, 10, &[1, 2, 3])])),
+        ("16_odd_more", p16(3, &[(4, 0, 10, &[1, 2, 3, 0])])),
+        ("16_odd_more_any", p16(3, &[(4, 0, 10, &[1, 2, 3, 255])])),
+        ("16_odd_two_more", p16(3, &[(5, 0, 10, &[1, 2, 3, 0, 0])])),
+        ("16_odd_mixed", p16(3, &[(3, 0, 10, &[1, 2, 3]), (4, 10, 10, &[4, 5, 6, 7]), (3, 20, 10, &[8, 9, 10])])),
+        ("16_one_bin_more", p16(1, &[(2, 0, 10, &[7, 0])])),
+        ("16_lowest", p16(2, &[(2, 0, 10, &[1, 2]), (4, 10, 10, &[3, 4, 5, 6]), (3, 20, 10, &[7, 8, 9])])),
+        // AF1F: the run lengths
+        ("af1f", af1f(5, &[full])),
+        ("af1f_zero_after_row", af1f(5, &[(2, 0, 10, &[0x31, 0x25, 0x00, 0x0f])])),
+        ("af1f_zero_in_row", af1f(5, &[(2, 0, 10, &[0x07, 0x31, 0x00, 0x25])])),
+        ("af1f_run_after_row", af1f(5, &[over])),
+        ("af1f_pad_not_zero", af1f(3, &[(1, 0, 10, &[0x31, 0x10])])),
+        ("af1f_lowest", af1f(5, &[full, over, over])),
+        // before 45: a later radial's refusals
+        ("over_then_19", tail(af1f(5, &[over, full])[..40].to_vec(), &[0, 1, 0])),
+        ("over_then_20", af1f(5, &[over, (1, 0, 101, &[0x31, 0x25])])),
+        ("over_then_21", p16(2, &[(3, 0, 10, &[1, 2, 3]), (1, 0, 10, &[1, 2])])),
+        ("over_then_22", af1f(5, &[over, (1, 0, 10, &[0x31, 0x35])])),
+        // 46
+        ("16_tail", tail(p16(2, &[(2, 0, 10, &[7, 9])]), &[0])),
+        ("af1f_tail", tail(af1f(5, &[full]), &[0, 0])),
+        ("over_and_tail", tail(p16(2, &[(3, 0, 10, &[7, 9, 0])]), &[0])),
+        ("28", rays()),
+        ("28_tail", tail(rays(), &[0])),
+        ("clear_16", header(16, 0, 5, 0)),
+        ("clear_af1f", header(0xaf1f, 0, 5, 0)),
+        ("clear_16_tail", tail(header(16, 0, 5, 0), &[0])),
+        ("clear_af1f_tail", tail(header(0xaf1f, 0, 5, 0), &[0, 1, 0, 0, 0, 10, 0x50, 0])),
+        ("clear_29", header(16, 0, 5, 0)[..29].to_vec()),
+    ] {
+        list.sweep(&format!("strict_{name}"), CLOCK, Scheme::Class, class(), body);
+    }
+    let lent = Lent { azimuths: 0, codes: 0, physical: 0 };
+    for (name, scheme, file, body) in [
+        ("10_over", Scheme::Legacy(1.0), legacy(), p16(2, &[(3, 0, 10, &[7, 9, 0])])),
+        ("10_tail", Scheme::Halfword, halfword(-320, 5, 254), tail(rays(), &[0])),
+        ("10", Scheme::Legacy(1.0), legacy(), p16(2, &[(2, 0, 10, &[7, 9])])),
+        ("9_tail", Scheme::Halfword, halfword(-320, 0, 254), tail(p16(2, &[(2, 0, 10, &[7, 9])]), &[0])),
+        ("9", Scheme::Halfword, halfword(-320, 0, 254), p16(2, &[(2, 0, 10, &[7, 9])])),
+        ("3_over", Scheme::Float, float(16.0, 128.0)[..70].to_vec(), af1f(5, &[over])),
+        ("36_over", Scheme::Class, class(), af1f(5, &[over])),
+        ("36_tail", Scheme::Class, class(), tail(af1f(5, &[full]), &[0])),
+        ("36", Scheme::Class, class(), af1f(5, &[full])),
+        ("clear_lent_nothing", Scheme::Class, class(), header(16, 0, 5, 0)),
+    ] {
+        list.add(&format!("strict_before_{name}"), Case::Sweep { clock: CLOCK, scheme, lent, file, body });
+    }
+    list.0.into_iter().map(|(name, case)| (name, case.strict())).collect()
+}
+
 /// Rows of 130 cells, so two blocks of 64 and a rest, of every packet under every scheme that it allows.
 fn blocks(list: &mut List) {
     let bytes: Vec<u8> = (0..261).map(|i| (i * 7 % 256) as u8).collect();
@@ -1004,6 +1065,7 @@ pub fn list() -> Vec<(String, Case)> {
     list.extend(charges());
     list.extend(clear());
     list.extend(exports());
+    list.extend(strict());
     list
 }
 

@@ -5,6 +5,7 @@ use lines::{Answer, Case, Lent, Packet, Refusal, Scheme};
 
 pub fn answer(case: &Case) -> Answer {
     match case {
+        Case::Strict { .. } => strict(case.clone().ordinary()),
         Case::Gaps { marks, .. } => gaps(case.clone().ordinary(), *marks),
         Case::Merge { .. } => merged(case),
         Case::Plan { totals, plan, .. } => planned(case.clone().ordinary(), *totals, plan),
@@ -14,6 +15,18 @@ pub fn answer(case: &Case) -> Answer {
         Case::Charge { total, ends, rates } => model::charge(*total, ends, rates).unwrap_or_else(Answer::Refused),
         _ => altered(case, radish::answer(case)),
     }
+}
+
+/// M-112, from the ordinary reading: where nothing is refused before 10, what the body holds beside its rows comes first.
+fn strict(case: Case) -> Answer {
+    let given = answer(&case);
+    let Case::Sweep { body, .. } = &case else { return given };
+    if given.refusal().is_none_or(|r| matches!(r.number, 9 | 10 | 36)) {
+        if let Some(refusal) = model::strict::surplus(body) {
+            return Answer::Refused(refusal);
+        }
+    }
+    given
 }
 
 /// M-101, from the ordinary reading: where it names a radial whose data make no row, every such radial's data are mended, and the

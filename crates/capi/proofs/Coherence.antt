@@ -1,5 +1,5 @@
 -- In every description record that an entry reports each float is the stated operation on the whole number beside it (M-110): whatever the
--- contracts of l3_pdb, l3_sweep, l3_gaps and l3_totals allow, where the reading accepts and the report has room. Assumes nothing.
+-- contracts of l3_pdb, l3_sweep, l3_strict, l3_gaps, l3_merge and l3_totals allow, where the reading accepts and the report has room. Assumes nothing.
 use Rattle.std.proofs.Common.{◌≡◌, ℕ, false, List, length, refl, subst, arith}
 use lib.Ieee.{Float}
 use Rattle.wire.specs.Result.{Result, accepted}
@@ -12,12 +12,14 @@ use Rattle.sweep.specs.MergeSweep.{merge_into}
 use Rattle.sweep.proofs.Coherence.{sweep_coherent, gaps_coherent, merge_coherent}
 use Rattle.fields.specs.Fields.{Totalled, totals_in, TotalsBuffers, totals_into}
 use Rattle.fields.proofs.Coherence.{totals_coherent}
+use Rattle.archive.specs.Archive.{strict_into}
+use Rattle.archive.proofs.Coherence.{strict_coherent}
 use Rattle.capi.specs.declared.report.Report.{Report}
 use Rattle.capi.specs.declared.places.PicturePlaces.{PicturePlaces}
 use Rattle.capi.specs.declared.places.ScalePlaces.{ScalePlaces}
 use Rattle.capi.specs.Report.{report_of, with_place, Said, said, failed, saying, short, over, Leaves}
 use Rattle.capi.specs.Places.{placed, head_places, fields_report, sweep_report, totals_report, Beside}
-use Rattle.capi.specs.Entries.{scheme_said, sweep_said, SweepLeaves, gaps_said, merge_said, GapsLeave, totals_said, TotalsLeave}
+use Rattle.capi.specs.Entries.{scheme_said, sweep_said, strict_said, SweepLeaves, gaps_said, merge_said, GapsLeave, totals_said, TotalsLeave}
 
 -- ---- reports
 
@@ -60,12 +62,24 @@ pdb_beside file block {n} {ints} {ints'} {floats} {floats'} l room f e =
 
 module _ (scheme : ℕ) (x : Float) (file : List ℕ) (clock : ℕ) (body : List ℕ) {n : ℕ} {ints ints' : List ℕ} {floats floats' : List Float}
     (room : short (length ints) (length floats) ≡ false) where
+  -- a sweep that is read in any way
+  read_beside : (d : Buffers → Said (Result Accepted)) {old new : Buffers} → SweepLeaves d n old new ints ints' floats floats'
+      → (p : Accepted) → d old ≡ said (accepted p) → Coherent p.sweep.fields → Beside p.sweep.fields ints' floats'
+  read_beside d l p e good =
+      left (sweep_report p.sweep) (shows good _ _ _ _ 0) room
+      (subst (λ s. Leaves (saying (λ a. report_of (sweep_in a) sweep_report) s) n ints ints' floats floats') e l.report)
+
   pub sweep_beside : {old new : Buffers} → SweepLeaves (sweep_said scheme x file clock body) n old new ints ints' floats floats'
       → (p : Accepted) → sweep_said scheme x file clock body old ≡ said (accepted p) → Beside p.sweep.fields ints' floats'
   sweep_beside {old} l p e =
       let g = said_by (λ h. read_into h file clock body old) (scheme_said scheme x) (accepted p) e in
-      left (sweep_report p.sweep) (shows (sweep_coherent g.0 file clock body _ _ _ p g.1) _ _ _ _ 0) room
-      (subst (λ s. Leaves (saying (λ a. report_of (sweep_in a) sweep_report) s) n ints ints' floats floats') e l.report)
+      read_beside (sweep_said scheme x file clock body) l p e (sweep_coherent g.0 file clock body _ _ _ p g.1)
+
+  pub strict_beside : {old new : Buffers} → SweepLeaves (strict_said scheme x file clock body) n old new ints ints' floats floats'
+      → (p : Accepted) → strict_said scheme x file clock body old ≡ said (accepted p) → Beside p.sweep.fields ints' floats'
+  strict_beside {old} l p e =
+      let g = said_by (λ h. strict_into h file clock body old) (scheme_said scheme x) (accepted p) e in
+      read_beside (strict_said scheme x file clock body) l p e (strict_coherent g.0 file clock body _ _ _ p g.1)
 
   -- with marks
   marked_beside : (d : GapBuffers → Said (Result GapSweep)) {old new : GapBuffers} → GapsLeave d n old new ints ints' floats floats'

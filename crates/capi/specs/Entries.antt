@@ -16,6 +16,7 @@ use Rattle.sweep.specs.GapSweep.{GapSweep, gap_sweep_in, GapBuffers, gaps_into}
 use Rattle.sweep.specs.MergeSweep.{merge_into}
 use Rattle.fields.specs.Fields.{Totalled, totals_in, TotalsBuffers, totals_into}
 use Rattle.export.specs.Export.{length_in}
+use Rattle.archive.specs.Archive.{strict_into}
 use Rattle.xdr.specs.Xdr as Xdr
 use Rattle.xdr.specs.Cursor.{done, string_part, array_part}
 use Rattle.xdr.specs.Each.{uint_at, float_at, string_at, array_at, head_at, list_at, end_at}
@@ -72,7 +73,11 @@ scheme_said n x = choice n (Scheme.Halfword ∷ Scheme.Float ∷ Scheme.Precipit
 abbrev pub sweep_said : ℕ → Float → List ℕ → ℕ → List ℕ → Buffers → Said (Result Accepted)
 sweep_said n x file clock body old = saying (λ scheme. read_into scheme file clock body old) (scheme_said n x)
 
--- What l3_sweep returns and leaves in the report's buffers and in the three that it is lent, where it has s to say.
+-- the same by the archive profile
+abbrev pub strict_said : ℕ → Float → List ℕ → ℕ → List ℕ → Buffers → Said (Result Accepted)
+strict_said n x file clock body old = saying (λ scheme. strict_into scheme file clock body old) (scheme_said n x)
+
+-- What l3_sweep or l3_strict returns and leaves in the report's buffers and in the three that it is lent, where it has s to say.
 pub record SweepLeaves (s : Buffers → Said (Result Accepted)) (number : ℕ) (old new : Buffers) (ints ints' : List ℕ) (floats floats' : List Float) : Type 0 where
   pub report : Leaves (saying (λ a. report_of (sweep_in a) sweep_report) (s old)) number ints ints' floats floats'
   pub azimuths : new.azimuths ≡ lent_by (room_first ints floats (s old)) (λ p. p.azimuths) old.azimuths

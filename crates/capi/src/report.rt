@@ -298,6 +298,8 @@ pub(crate) fn refusal_report(error: Level3DecodeError) -> Report
         Level3DecodeError::RowTooLong => wholes(42, 0, 0, 0, 0),
         Level3DecodeError::DifferentSweeps => wholes(43, 0, 0, 0, 0),
         Level3DecodeError::RowsDisagree { radial } => wholes(44, radial.word(), 0, 0, 0),
+        Level3DecodeError::SurplusInRow { radial } => wholes(45, radial.word(), 0, 0, 0),
+        Level3DecodeError::SurplusAfterRadials => wholes(46, 0, 0, 0, 0),
     }
 }
 

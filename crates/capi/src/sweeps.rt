@@ -1,10 +1,10 @@
-// The sweep reading: without gaps, with them, of two receptions, with the totals of a field plan.
+// The sweep reading: without gaps, by the archive profile, with gaps, of two receptions, with the totals of a field plan.
 ghost use Rattle.std.specs.Prelude.{◌≡◌, if◌then◌else◌};
 ghost use Rattle.sweep.specs.Sweep.{buffers};
 ghost use Rattle.sweep.specs.GapSweep.{gap_buffers};
 ghost use Rattle.fields.specs.Fields.{totals_buffers};
 ghost use Rattle.capi.specs.Report.{failed, short};
-ghost use Rattle.capi.specs.Entries.{scheme_said, sweep_said, SweepLeaves, gaps_said, merge_said, GapsLeave, totals_said, TotalsLeave, asked_of};
+ghost use Rattle.capi.specs.Entries.{scheme_said, sweep_said, strict_said, SweepLeaves, gaps_said, merge_said, GapsLeave, totals_said, TotalsLeave, asked_of};
 
 use crate::report::{is_short, write_answer};
 use scale::physical::Scheme;
@@ -63,6 +63,33 @@ pub fn l3_sweep(
         Err(number) => return number,
     };
     let answer = sweep::sweep::read_sweep(file, clock, asked, body, azimuths, codes, physical);
+    write_answer(answer, ints, floats)
+}
+
+pub fn l3_strict(
+    file: &[u8],
+    clock: u64,
+    scheme: u32,
+    parameter: f32,
+    body: &[u8],
+    azimuths: &mut [f64],
+    codes: &mut [u16],
+    physical: &mut [f32],
+    ints: &mut [u64],
+    floats: &mut [f64],
+) -> u32
+    ensures { SweepLeaves (strict_said scheme parameter file.now clock body.now) result
+        (buffers azimuths.old codes.old physical.old)
+        (buffers azimuths.new codes.new physical.new)
+        ints.old ints.new floats.old floats.new }
+{
+    let asked = match asked_scheme(scheme, parameter, ints.len(), floats.len()) {
+        Ok(s) => s,
+        Err(number) => return number,
+    };
+    let answer = archive::strict::read_sweep_strict(
+        file, clock, asked, body, azimuths, codes, physical,
+    );
     write_answer(answer, ints, floats)
 }
 

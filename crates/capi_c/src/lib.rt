@@ -2,8 +2,9 @@
 #![tactic(auto)]
 
 ghost use Rattle.calendar.specs.Calendar.{date_of};
-ghost use Rattle.capi.specs.Entries.{ExportLeaves, GapsLeave, PictureLeaves, SweepLeaves, TotalsLeave, codes_said, field_said, gaps_said};
-ghost use Rattle.capi.specs.Entries.{items_said, levels_said, merge_said, physical_said, read_said, sweep_said, threshold_said, totals_said, xdr_said};
+ghost use Rattle.capi.specs.Entries.{ExportLeaves, GapsLeave, PictureLeaves, SweepLeaves, TotalsLeave, codes_said, field_said, gaps_said, items_said};
+ghost use Rattle.capi.specs.Entries.{levels_said, merge_said, physical_said, read_said, strict_said, sweep_said, threshold_said, totals_said};
+ghost use Rattle.capi.specs.Entries.{xdr_said};
 ghost use Rattle.capi.specs.Places.{charge_report, date_report, fields_report, linear_report, no_report, number_report, precip_report};
 ghost use Rattle.capi.specs.Report.{Leaves, lent_by, plain_after, plain_number, report_of, room_first, said, saying};
 ghost use Rattle.export.specs.Export.{export_of};
@@ -250,6 +251,29 @@ pub extern "C" fn l3_sweep(
         ints.old ints.new floats.old floats.new }
 {
     capi::sweeps::l3_sweep(
+        file, clock, scheme, parameter, body, azimuths, codes, physical, ints, floats,
+    )
+}
+
+#[unsafe(no_mangle)]
+pub extern "C" fn l3_strict(
+    file: &[u8],
+    clock: u64,
+    scheme: u32,
+    parameter: f32,
+    body: &[u8],
+    azimuths: &mut [f64],
+    codes: &mut [u16],
+    physical: &mut [f32],
+    ints: &mut [u64],
+    floats: &mut [f64],
+) -> u32
+    ensures { SweepLeaves (strict_said scheme parameter file.now clock body.now) result
+        (buffers azimuths.old codes.old physical.old)
+        (buffers azimuths.new codes.new physical.new)
+        ints.old ints.new floats.old floats.new }
+{
+    capi::sweeps::l3_strict(
         file, clock, scheme, parameter, body, azimuths, codes, physical, ints, floats,
     )
 }

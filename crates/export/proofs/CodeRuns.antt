@@ -54,6 +54,7 @@ new c = c.last.1.0.now
 -- An accepted call: the first n places of the buffer are a body that is read as the original is and laid out as the request says, and the
 -- later places keep their contents.
 pub record Exported (b out₀ out : List ℕ) (n : ℕ) : Type 0 where
+  pub is : export_of b (length out₀) ≡ accepted (take n out)
   pub trip : RoundTrip b (take n out)
   pub laid : Layout b (take n out)
   pub kept : drop n out ≡ drop n out₀
@@ -67,6 +68,7 @@ exported b out₀ out n e k = go (export_of b (length out₀)) refl e k
         let l : length o ≡ n = sym (one_value i) in
         let t : take n out ≡ o = ap (take n) j ∙ take_at o (drop (length o) out₀) n l in
         record {
+          is = rw t h;
           trip = rw t (round_trip b (length out₀) o h);
           laid = rw t (layout b (length out₀) o h);
           kept = ap (drop n) j ∙ drop_at o (drop (length o) out₀) n l ∙ ap (λ m. drop m out₀) l;
@@ -101,7 +103,7 @@ sweep_in_16 : (r : Result Accepted) → sweep_in (then r λ a. accepted (accepte
 sweep_in_16 (accepted a) = refl
 sweep_in_16 (refused x) = refl
 
-agree : (scheme : Scheme) (file : List ℕ) (clock : ℕ) (b o : List ℕ) (old old' new new' : Buffers) (a a' : SweepAnswer) → RoundTrip b o → ¬ (IsLegacy scheme)
+pub agree : (scheme : Scheme) (file : List ℕ) (clock : ℕ) (b o : List ℕ) (old old' new new' : Buffers) (a a' : SweepAnswer) → RoundTrip b o → ¬ (IsLegacy scheme)
     → SameLengths old old' → Ran scheme file clock b old new a → Ran scheme file clock o old' new' a' → Agree old old' new new' a a'
 agree scheme file clock b o old old' new new' a a' t other lengths r r' =
     let first = read_into scheme file clock b old in
@@ -115,7 +117,7 @@ agree scheme file clock b o old old' new new' a a' t other lengths r r' =
       physical = (r.physical, r'.physical ∙ ap (λ (x : Result Accepted). lent x (λ p. p.physical) old'.physical) second ∙ lent_16 first (λ p. p.physical) (λ p. refl) old'.physical);
     }
 
-alike : {s s' : Scheme} {f f' : List ℕ} {k k' : ℕ} {b b' : List ℕ} (o n : Buffers) (a : SweepAnswer) → s' ≡ s → f' ≡ f → k' ≡ k → b' ≡ b → Ran s' f' k' b' o n a → Ran s f k b o n a
+pub alike : {s s' : Scheme} {f f' : List ℕ} {k k' : ℕ} {b b' : List ℕ} (o n : Buffers) (a : SweepAnswer) → s' ≡ s → f' ≡ f → k' ≡ k → b' ≡ b → Ran s' f' k' b' o n a → Ran s f k b o n a
 alike o n a es ef ek eb r = rw (← es, ← ef, ← ek, ← eb) r
 
 pub calls_agree : (x : Call) → Allowed x → (n : ℕ) → x.answer ≡ Ok n → (c d : Reading.Call) → Reading.Allowed c → Reading.Allowed d

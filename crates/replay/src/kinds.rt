@@ -3,10 +3,11 @@ ghost use Rattle.std.specs.Prelude.{◌≡◌, ◌≤◌, Some};
 ghost use Rattle.replay.specs.Kinds.{field_kind, scheme_number, parameter_of, item_number};
 ghost use Rattle.replay.specs.Numbers.{number_of_kind, number_of_scheme, number_of_item};
 
-// A reading of a sweep: without gaps, with them, of two receptions, with the totals of a field plan.
+// A reading of a sweep: without gaps, by the archive profile, with gaps, of two receptions, with the totals of a field plan.
 #[derive(Clone, Copy)]
 pub enum Reading {
     Plain,
+    Strict,
     Gaps,
     Merge,
     Plan,
@@ -19,7 +20,7 @@ impl Reading {
         ensures { result ≤ 8 }
     {
         match self {
-            Reading::Plain => 7,
+            Reading::Plain | Reading::Strict => 7,
             Reading::Gaps | Reading::Merge | Reading::Plan => 8,
         }
     }
@@ -72,6 +73,7 @@ impl Kind {
     pub fn of(word: &[u8]) -> Option<Kind> {
         Some(match word {
             b"sweep" => Kind::Sweep(Reading::Plain),
+            b"strict" => Kind::Sweep(Reading::Strict),
             b"gaps" => Kind::Sweep(Reading::Gaps),
             b"merge" => Kind::Sweep(Reading::Merge),
             b"plan" => Kind::Sweep(Reading::Plan),
@@ -100,7 +102,7 @@ impl Kind {
     // What the words behind the case's name have to be.
     pub fn form(self) -> &'static [Form] {
         match self {
-            Kind::Sweep(Reading::Plain) => &[
+            Kind::Sweep(Reading::Plain | Reading::Strict) => &[
                 Form::Clock,
                 Form::Scheme,
                 Form::Size,

@@ -1,4 +1,4 @@
-// The sweep reading: without gaps, with them, of two receptions, with the totals of a field plan.
+// The sweep reading: without gaps, by the archive profile, with gaps, of two receptions, with the totals of a field plan.
 use crate::body::first;
 use crate::case::Case;
 use crate::kinds::{Reading, Scheme};
@@ -33,11 +33,11 @@ impl Written {
         let cells = report.cells();
         let marks = match reading {
             Reading::Gaps | Reading::Merge => azimuths,
-            Reading::Plain | Reading::Plan => 0,
+            Reading::Plain | Reading::Strict | Reading::Plan => 0,
         };
         let totals = match reading {
             Reading::Plan => report.size(14),
-            Reading::Plain | Reading::Gaps | Reading::Merge => 0,
+            Reading::Plain | Reading::Strict | Reading::Gaps | Reading::Merge => 0,
         };
         Written {
             azimuths,
@@ -55,7 +55,7 @@ impl Lent {
         let codes = case.size(5);
         let physical = case.size(6);
         let (marks, totals) = match reading {
-            Reading::Plain => (0, 0),
+            Reading::Plain | Reading::Strict => (0, 0),
             Reading::Gaps | Reading::Merge => (case.size(7), 0),
             Reading::Plan => (0, case.size(7)),
         };
@@ -116,7 +116,7 @@ fn print_more(
     lent: &Lent,
 ) -> io::Result<()> {
     match reading {
-        Reading::Plain => Ok(()),
+        Reading::Plain | Reading::Strict => Ok(()),
         Reading::Gaps | Reading::Merge => {
             write!(out, " marks={}", Row(first(&lent.marks, written.marks)))
         }
@@ -147,6 +147,18 @@ fn ask(
     let more = case.bytes(at + 2)?;
     Ok(match reading {
         Reading::Plain => capi::sweeps::l3_sweep(
+            file,
+            clock,
+            scheme,
+            parameter,
+            &body,
+            &mut lent.azimuths,
+            &mut lent.codes,
+            &mut lent.physical,
+            &mut report.ints,
+            &mut report.floats,
+        ),
+        Reading::Strict => capi::sweeps::l3_strict(
             file,
             clock,
             scheme,

@@ -308,6 +308,15 @@ impl fmt::Display for Refusal {
                     "44 RowsDisagree: rows of other codes in the bodies, at radial {radial}"
                 )
             }
+            Level3DecodeError::SurplusInRow { radial } => {
+                write!(f, "45 SurplusInRow: more than its row in radial {radial}")
+            }
+            Level3DecodeError::SurplusAfterRadials => {
+                write!(
+                    f,
+                    "46 SurplusAfterRadials: the body does not end with its last radial or payload"
+                )
+            }
         }
     }
 }

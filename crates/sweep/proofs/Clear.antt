@@ -42,7 +42,7 @@ pub lent_nothing : {A B : Type 0} (r : Result B) (part : B → List A) (old : Li
 lent_nothing (accepted x) part old h = rw (h x refl) refl
 lent_nothing (refused x) part old h = refl
 
-same_buffers : {one other : Buffers} → other.azimuths ≡ one.azimuths → other.codes ≡ one.codes → other.physical ≡ one.physical → other ≡ one
+pub same_buffers : {one other : Buffers} → other.azimuths ≡ one.azimuths → other.codes ≡ one.codes → other.physical ≡ one.physical → other ≡ one
 same_buffers e f g = all e f g
   where
     all : {az az' : List Float} {cs cs' : List ℕ} {ph ph' : List Float} → az' ≡ az → cs' ≡ cs → ph' ≡ ph → buffers az' cs' ph' ≡ buffers az cs ph

@@ -106,12 +106,15 @@ buffers az cs ph = record { azimuths = az; codes = cs; physical = ph }
 abbrev pub read_into : Scheme → List ℕ → ℕ → List ℕ → Buffers → Result Accepted
 read_into scheme file clock body old = sweep_of scheme file clock body (length old.azimuths) (length old.codes) (length old.physical)
 
--- One run: the answer, and what the buffers hold before and after.
-pub record Ran (scheme : Scheme) (file : List ℕ) (clock : ℕ) (body : List ℕ) (old new : Buffers) (said : SweepAnswer) : Type 0 where
-  pub answered : answer said ≡ sweep_in (read_into scheme file clock body old)
-  pub azimuths : new.azimuths ≡ lent (read_into scheme file clock body old) (λ p. p.azimuths) old.azimuths
-  pub codes : new.codes ≡ lent (read_into scheme file clock body old) (λ p. p.codes) old.codes
-  pub physical : new.physical ≡ lent (read_into scheme file clock body old) (λ p. p.physical) old.physical
+-- One run: the answer of a reading, and what the buffers hold before and after.
+pub record SweepRan (reading : Result Accepted) (old new : Buffers) (said : SweepAnswer) : Type 0 where
+  pub answered : answer said ≡ sweep_in reading
+  pub azimuths : new.azimuths ≡ lent reading (λ p. p.azimuths) old.azimuths
+  pub codes : new.codes ≡ lent reading (λ p. p.codes) old.codes
+  pub physical : new.physical ≡ lent reading (λ p. p.physical) old.physical
+
+abbrev pub Ran : Scheme → List ℕ → ℕ → List ℕ → Buffers → Buffers → SweepAnswer → Type 0
+Ran scheme file clock body old new said = SweepRan (read_into scheme file clock body old) old new said
 
 -- ---- what the code asks of a body
 

@@ -150,6 +150,14 @@ inside_is size room h = go (lt_z size (pos 0)) h
     go true k = let z : ◌≡◌ {A = ℕ} 0 1 = cc in absurd (omega arith)
     go false k = ltb-false _ _ k
 
+-- a payload that passed 12 and 23 ends inside the body
+pub payload_inside : (s : List ℕ) → ((i : ℕ) → get_or s i 0 < 256) → 24 ≤ length s
+    → body_short (signed 2147483648 (u32_at s 20)) (length s - 24) ≡ false → 24 + u32_at s 20 ≤ length s
+payload_inside s bytes long h =
+    let e = length_is (u32_at s 20) (length s - 24) (u32_small s 20 bytes) h in
+    let k = inside_is (signed 2147483648 (u32_at s 20)) (length s - 24) h in
+    omega (arith, e, k)
+
 module _ (s : List ℕ) where
   generic_is : (m : Bool) → run (in_mode m generic_packet) s 18
       ≡ cond (ltb (length s - 18) 6) (refused (kind 12 (nat (18 + (length s - 18)) ∷ [])))

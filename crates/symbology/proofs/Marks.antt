@@ -1,6 +1,6 @@
 -- Packet 28, item by item: on an accepted path each piece of the reading is the mark of its item, and each radial has one row, with its
 -- own number. Assumes nothing.
-use Rattle.std.proofs.Common.{◌≡◌, ℕ, zero, suc, ◌+◌, ◌-◌, ◌*◌, ◌<◌, ◌≤◌, Bool, false, not, eqb, ◌↔◌, List, [], ◌∷◌, ◌++◌, map, length, take, ℤ, pos, negsuc, sym, refl, ap, ◌∙◌, ap₂, append_assoc, append-nil, arith, length-take, get_or-take, ltb-false, eqb-true}
+use Rattle.std.proofs.Common.{◌≡◌, ℕ, zero, suc, ◌+◌, ◌-◌, ◌*◌, ◌<◌, ◌≤◌, Bool, false, not, eqb, ◌↔◌, List, [], ◌∷◌, ◌++◌, map, length, get_or, take, ℤ, pos, negsuc, sym, refl, ap, ◌∙◌, ap₂, append_assoc, append-nil, arith, length-take, get_or-take, ltb-false, eqb-true}
 use mathlib.Core.List.{map-append}
 use lib.Signed.{le_z}
 use lib.Ieee.{Float, binary32, of_bits}
@@ -19,6 +19,7 @@ use Rattle.symbology.specs.declared.generic.XdrRadial.{XdrRadial}
 use Rattle.symbology.specs.declared.generic.Gates28.{Gates28}
 use Rattle.symbology.specs.Symbology.{Sweep, product_block, xdr_frame, xdr_radial, xdr_walk, xdr_radials, component_head, component, only, payload, generic_packet}
 use Rattle.symbology.specs.declared.figures.Packet.TheVariants.{Packet28}
+use Rattle.symbology.proofs.Bodies.{payload_inside}
 use Rattle.symbology.proofs.Containment.{value_same}
 use Rattle.symbology.proofs.Path.{Post, Ends, then, tested, weaken, after, table}
 
@@ -336,6 +337,7 @@ Generic b a e fs ps =
     Rows28 a (rows_in fs)
     × (ps ≡ as_unread 2 ∷ as_number 4 ∷ marked (product_items b (list_items b (component_items b) λ q. []) 24))
     × ((i : ℕ) → i < length b → (e ≤ i) ↔ (24 + u32_at b 20 ≤ i))
+    × (((i : ℕ) → get_or b i 0 < 256) → 24 + u32_at b 20 ≤ length b)
 
 pub generic : (b : List ℕ) → Ends generic_packet b 18 (Generic b)
 unfolding generic_packet Ends ◌>>◌ ◌>>=◌ remaining u32 unread Generic
@@ -347,5 +349,5 @@ generic b =
     let all : marked (product_items b (list_items b (component_items b) λ q. []) 24) ≡ ps = r.2 ∙ ap (λ (l : Items). ps ++ marked l) r.1.1 ∙ append-nil ps in
     let end : length (take m b) - e ≡ 0 = r.1.2 in
     let cut = length-take m b in
-    (r.1.0, ap (λ (l : List Piece). as_unread 2 ∷ as_number 4 ∷ l) (sym all), λ i lt. omega arith))
+    (r.1.0, ap (λ (l : List Piece). as_unread 2 ∷ as_number 4 ∷ l) (sym all), λ i lt. omega arith, λ bytes. payload_inside b bytes (omega (arith, ltb-false _ _ h12)) h23))
     (at_payload b m 24).on

@@ -1,5 +1,5 @@
 -- The places of an accepted body's data and of its unread bytes. Assumes nothing.
-use Rattle.std.proofs.Common.{◌≡◌, ℕ, zero, suc, ◌+◌, ◌<◌, ◌≤◌, Bool, true, false, cond, eqb, ◌≢◌, ◌⊎◌, ◌↔◌, List, [], ◌∷◌, ◌++◌, length, get_or, sym, refl, ap, ◌∙◌, inl, inr, ⊎_elim, append_assoc, append-nil, le_of_suc-le-suc, not-suc-le-zero, arith}
+use Rattle.std.proofs.Common.{◌≡◌, ℕ, zero, suc, ◌+◌, ◌<◌, ◌≤◌, Bool, true, false, cond, eqb, ◌≢◌, ◌⊎◌, ◌↔◌, List, [], ◌∷◌, ◌++◌, length, get_or, sym, refl, ap, ◌∙◌, inl, inr, ⊎_elim, append_assoc, append-nil, le_of_suc-le-suc, not-suc-le-zero, arith, ltb-false}
 use mathlib.Core.Logic.Iff
 use lib.ListN.{length-map, get_or-map}
 use Rattle.wire.specs.Bytes.{u16_at, signed}
@@ -24,6 +24,7 @@ module _ (packet : Packet) (bins : ℕ) (s : List ℕ) where
   record Beamed (r e : ℕ) (fs : List Frame) (ps : List Piece) : Type 0 where
     one : fs ≡ frame_at packet bins s r ∷ []
     end : e ≡ place packet s (suc r)
+    inside : e ≤ length s
     bits : ps ≡ as_number 2 ∷ as_number 2 ∷ as_number 2 ∷ as_data (covered packet (u16_at s (place packet s r))) ∷ []
     enough : Enough packet bins (frame_at packet bins s r).count
 
@@ -31,6 +32,7 @@ module _ (packet : Packet) (bins : ℕ) (s : List ℕ) where
   record Walked (n r e : ℕ) (fs : List Frame) (ps : List Piece) : Type 0 where
     all : fs ≡ table (frame_at packet bins s) n r
     end : e ≡ place packet s (r + n)
+    inside : e ≤ length s
     bits : (p i : ℕ) → UnreadIn ps p i → ⊥
     enough : (k : ℕ) → k < n → Enough packet bins (frame_at packet bins s (r + k)).count
 
@@ -49,22 +51,24 @@ module _ (packet : Packet) (radials bins : ℕ) (s : List ℕ) (old : packet ≢
         record {
           one = ap (λ (q : ℕ). record { start = q; count = c; row = row_of packet bins r } ∷ []) (omega arith);
           end = omega arith;
+          inside = omega (arith, ltb-false _ _ h19, k.0);
           bits = refl;
           enough = k.1;
         },
       ))
 
-  at_beams : (n r : ℕ) → Ends (radial_walk packet radials bins n r) s (place packet s r) (λ a. Walked packet bins s n r)
+  at_beams : (n r : ℕ) → place packet s r ≤ length s → Ends (radial_walk packet radials bins n r) s (place packet s r) (λ a. Walked packet bins s n r)
   unfolding radial_walk Ends table UnreadIn
-  at_beams zero r =
-      record { all = refl; end = ap (place packet s) (omega arith); bits = λ p i u. u; enough = λ k lt. absurd (not-suc-le-zero lt) }
-  at_beams (suc n) r =
+  at_beams zero r from =
+      record { all = refl; end = ap (place packet s) (omega arith); inside = from; bits = λ p i u. u; enough = λ k lt. absurd (not-suc-le-zero lt) }
+  at_beams (suc n) r from =
       after _ _ s _ _ _ (at_beam r) λ a e fs ps h.
       rw (h.one, h.end, h.bits)
-      (after _ _ s _ _ _ (at_beams n (suc r)) λ l e' fs' ps' w.
+      (after _ _ s _ _ _ (at_beams n (suc r) (rw (← h.end) h.inside)) λ l e' fs' ps' w.
       record {
         all = simp append-nil (ap (λ (x : List Frame). frame_at packet bins s r ∷ x) w.all);
         end = w.end ∙ ap (place packet s) (omega arith);
+        inside = w.inside;
         bits = λ p i u. w.bits _ i (simp append-nil at u);
         enough = enough h.enough w.enough;
       })
@@ -106,7 +110,7 @@ at_packet packet s old =
     tested _ _ _ s _ _ λ h18.
     let radials = u16_at s 28 in
     let bins = u16_at s 20 in
-    after _ (radial_walk packet radials bins radials 0) s 30 _ _ (at_beams packet radials bins s old radials 0) λ l e' fs' ps' w.
+    after _ (radial_walk packet radials bins radials 0) s 30 _ _ (at_beams packet radials bins s old radials 0 (omega (arith, ltb-false _ _ h12))) λ l e' fs' ps' w.
     record { is = refl; beams = ps' ++ []; bits = append_assoc (first packet) _ _; walked = simp append-nil w }))
 
 -- ---- the body
@@ -173,8 +177,10 @@ module _ (b : List ℕ) (a : Sweep) (r : Reached symbology b 0 (Body b) a) where
         rows = λ k lt. rw o.is (ap (λ (x : Frame). x.row) (f k lt));
         enough = λ k lt. let z : 0 + k ≡ k = omega arith in rw (o.is, f k lt) (rw z at (w.enough k lt));
         frames = λ n k lt. rw o.is (f k lt);
+        inside = λ n. let z : 0 + radials ≡ radials = omega arith in rw o.is (rw (w.end, z) at w.inside);
         unread = λ n i. rw o.is (Iff.trans (rw (r.holds.bits, o.bits) at (r.unread i)) (old_unread packet o.beams r.past i old (λ p. w.bits p i) radials b (w.end ∙ ap (place packet b) (omega arith))));
         items = λ n. absurd (old (sym o.is ∙ n));
+        inside28 = λ n. absurd (old (sym o.is ∙ n));
         unread28 = λ n. absurd (old (sym o.is ∙ n));
         data28 = λ n. absurd (old (sym o.is ∙ n));
       }
@@ -192,8 +198,10 @@ module _ (b : List ℕ) (a : Sweep) (r : Reached symbology b 0 (Body b) a) where
         rows = λ k lt. rw o.0.0 (ap (λ (x : RowFn). x.1) (f k lt));
         enough = λ k lt. rw o.0.0 (ap (λ (x : RowFn). x.0) (f k lt));
         frames = λ n. absurd (n o.0.0);
+        inside = λ n. absurd (n o.0.0);
         unread = λ n. absurd (n o.0.0);
         items = λ n. all;
+        inside28 = λ n. o.3;
         unread28 = λ n i lt. (
           λ u. ⊎_elim inl (λ v. inr ((o.2 i lt).0 v)) (rw all at ((r.unread i).0 u)),
           λ u. (r.unread i).1 (rw all (⊎_elim inl (λ v. inr ((o.2 i lt).1 v)) u)),

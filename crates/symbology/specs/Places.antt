@@ -1,5 +1,5 @@
 -- Where the radials of an accepted body stand and which of its bytes are unread, in document 01's own words and figures.
-use Rattle.std.specs.Prelude.{◌≡◌, ℕ, zero, suc, ◌+◌, ◌*◌, ◌<◌, ◌≤◌, ◌≢◌, ◌⊎◌, ◌↔◌, List, [], ◌∷◌, map, length, slice_index_or}
+use Rattle.std.specs.Prelude.{◌≡◌, ℕ, zero, suc, ◌+◌, ◌*◌, ◌<◌, ◌≤◌, ◌≢◌, ◌⊎◌, ◌↔◌, List, [], ◌∷◌, map, length, slice_index, slice_index_or}
 use Rattle.wire.specs.Bytes.{u16_at, u32_at, i32_at}
 use Rattle.wire.specs.Reading.{Frame, Unread, Piece, as_number, as_unread, as_data, pieces}
 use Rattle.xdr.specs.Xdr.{padding, at_least0}
@@ -160,13 +160,15 @@ pub record Placed (b : List ℕ) (f : Figures) : Type 0 where
   pub rows : (r : ℕ) → r < f.n_radials → (radial_at symbology b r).row ≡ row_of f.packet f.n_bins r
   -- each has data for its row
   pub enough : (r : ℕ) → r < f.n_radials → Enough f.packet f.n_bins (radial_at symbology b r).count
-  -- packets 16 and AF1F, in figures
+  -- packets 16 and AF1F, in figures; the last ends inside the body
   pub frames : f.packet ≢ Packet28 → (r : ℕ) → r < f.n_radials
       → radial_at symbology b r ≡ frame_at f.packet f.n_bins b r
+  pub inside : f.packet ≢ Packet28 → place f.packet b f.n_radials ≤ length b
   pub unread : f.packet ≢ Packet28 → (i : ℕ) → Unread symbology b 0 i ↔ UnreadByte f.packet f.n_radials b i
   -- packet 28, item by item: what is read, unread and data, in order
   pub items : f.packet ≡ Packet28 → pieces symbology b 0 ≡ marks b
-  -- a byte is unread where its item is, or past the payload
+  -- its payload ends inside the body; a byte is unread where its item is, or past the payload
+  pub inside28 : f.packet ≡ Packet28 → ((i : ℕ) → slice_index b i < 256) → 24 + u32_at b 20 ≤ length b
   pub unread28 : f.packet ≡ Packet28 → (i : ℕ) → i < length b → Unread symbology b 0 i ↔ (UnreadIn (marks b) 0 i ⊎ (24 + u32_at b 20 ≤ i))
   -- and a radial's data are the integers of its array
   pub data28 : f.packet ≡ Packet28 → (r : ℕ) → r < f.n_radials

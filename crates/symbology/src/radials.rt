@@ -23,7 +23,7 @@ pub struct PacketHeader {
 
 // How many bytes a radial's count covers.
 #[tactic(auto, unfolding(crate::specs::Symbology::covered))]
-fn covered_by(packet: Packet, count: u16) -> usize
+pub fn covered_by(packet: Packet, count: u16) -> usize
     ensures { (result ≡ covered packet count) × (result ≤ count * 4) }
 {
     match packet {

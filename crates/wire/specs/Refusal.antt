@@ -3,7 +3,7 @@ use Rattle.std.specs.Prelude.{ℕ, List, [], ◌∷◌, ℤ, pos, Float}
 use Rattle.wire.specs.declared.error.XdrItem.{XdrItem}
 use Rattle.wire.specs.declared.error.Buffer.{Buffer}
 use Rattle.wire.specs.declared.error.Level3DecodeError.{Level3DecodeError}
-use Rattle.wire.specs.declared.error.Level3DecodeError.TheVariants.{NoAwipsToken, NoMessageHeader, PdbFieldOutOfBounds, ImplausibleScanTime, ScanTimeTooFarAhead, ClockOutOfRange, NonFiniteScale, NonFiniteOffset, NonPositiveIncrement, SchemeMismatch, UnexpectedTrailingBytes, SymbologyTruncated, BadSymbologyHeader, UnsupportedPacketCode, EmptySweep, GridTooLarge, NonZeroFirstBin, AllocationExceedsBody, TruncatedAtRadial, ImplausibleRadialWidth, RadialByteCountMismatch, RleExpansionMismatch, XdrTruncated, XdrStringTooLong, XdrArrayTooLong, XdrListTooLong, UnsupportedXdrComponent, UnexpectedXdrComponentCount, NonPositiveXdrGeometry, ImplausibleXdrRadialCount, XdrRadialBinCountMismatch, XdrRadialDataLengthMismatch, XdrGridTooLarge, XdrRawLevelOutOfRange, XdrTrailingBytes, BufferTooShort, PlanMalformed, FieldRepeated, StripOutside, TariffMalformed, TotalTooLarge, RowTooLong, DifferentSweeps, RowsDisagree}
+use Rattle.wire.specs.declared.error.Level3DecodeError.TheVariants.{NoAwipsToken, NoMessageHeader, PdbFieldOutOfBounds, ImplausibleScanTime, ScanTimeTooFarAhead, ClockOutOfRange, NonFiniteScale, NonFiniteOffset, NonPositiveIncrement, SchemeMismatch, UnexpectedTrailingBytes, SymbologyTruncated, BadSymbologyHeader, UnsupportedPacketCode, EmptySweep, GridTooLarge, NonZeroFirstBin, AllocationExceedsBody, TruncatedAtRadial, ImplausibleRadialWidth, RadialByteCountMismatch, RleExpansionMismatch, XdrTruncated, XdrStringTooLong, XdrArrayTooLong, XdrListTooLong, UnsupportedXdrComponent, UnexpectedXdrComponentCount, NonPositiveXdrGeometry, ImplausibleXdrRadialCount, XdrRadialBinCountMismatch, XdrRadialDataLengthMismatch, XdrGridTooLarge, XdrRawLevelOutOfRange, XdrTrailingBytes, BufferTooShort, PlanMalformed, FieldRepeated, StripOutside, TariffMalformed, TotalTooLarge, RowTooLong, DifferentSweeps, RowsDisagree, SurplusInRow, SurplusAfterRadials}
 
 -- a value that a refusal carries: a whole number, a float, the XDR item cut short, the buffer that is short
 pub data Value : Type 0 where
@@ -65,3 +65,5 @@ refusal_of TotalTooLarge = kind 41 []
 refusal_of RowTooLong = kind 42 []
 refusal_of DifferentSweeps = kind 43 []
 refusal_of (RowsDisagree r) = kind 44 (nat r ∷ [])
+refusal_of (SurplusInRow r) = kind 45 (nat r ∷ [])
+refusal_of SurplusAfterRadials = kind 46 []

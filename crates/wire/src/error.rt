@@ -1,4 +1,4 @@
-// The kinds of refusal, in the order of their numbers: 1 to 44.
+// The kinds of refusal, in the order of their numbers: 1 to 46.
 // specs/Refusal.antt gives the number and the values of each.
 
 // The XDR item that was cut short.
@@ -161,4 +161,8 @@ pub enum Level3DecodeError {
     RowsDisagree {
         radial: usize,
     },
+    SurplusInRow {
+        radial: usize,
+    },
+    SurplusAfterRadials,
 }

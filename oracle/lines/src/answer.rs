@@ -15,7 +15,7 @@ pub const ITEMS: [&str; 7] = ["int", "uint", "float", "string_body", "padding", 
 pub const BUFFERS: [&str; 6] = ["azimuths", "codes", "physical", "marks", "totals", "output"];
 
 /// The table's names, from 1.
-pub const NAMES: [&str; 44] = [
+pub const NAMES: [&str; 46] = [
     "NoAwipsToken",
     "NoMessageHeader",
     "PdbFieldOutOfBounds",
@@ -60,6 +60,8 @@ pub const NAMES: [&str; 44] = [
     "RowTooLong",
     "DifferentSweeps",
     "RowsDisagree",
+    "SurplusInRow",
+    "SurplusAfterRadials",
 ];
 
 #[derive(Debug, Clone, Copy, PartialEq, Eq)]
@@ -221,7 +223,7 @@ impl Refusal {
         match number {
             7..=9 => (0, 1),
             20 => (1, 1),
-            3 | 5 | 11 | 12 | 14 | 17 | 27 | 28 | 35..=39 | 44 => (1, 0),
+            3 | 5 | 11 | 12 | 14 | 17 | 27 | 28 | 35..=39 | 44 | 45 => (1, 0),
             4 | 13 | 15 | 19 | 24 | 25 | 26 | 29 | 30 => (2, 0),
             21 | 22 | 23 | 31 | 32 | 34 => (3, 0),
             16 | 18 | 33 => (4, 0),

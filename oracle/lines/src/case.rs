@@ -35,6 +35,14 @@ pub enum Case {
         file: Vec<u8>,
         body: Vec<u8>,
     },
+    /// The reading by the archive profile: a sweep's input.
+    Strict {
+        clock: i128,
+        scheme: Scheme,
+        lent: Lent,
+        file: Vec<u8>,
+        body: Vec<u8>,
+    },
     /// The gap reading: a sweep's input, and how many marks are lent.
     Gaps {
         clock: i128,
@@ -252,6 +260,7 @@ impl Case {
     pub fn kind(&self) -> &'static str {
         match self {
             Case::Sweep { .. } => "sweep",
+            Case::Strict { .. } => "strict",
             Case::Gaps { .. } => "gaps",
             Case::Merge { .. } => "merge",
             Case::Plan { .. } => "plan",
@@ -275,6 +284,14 @@ impl Case {
             Case::Each { .. } => "each",
             Case::Read { .. } => "read",
             Case::Charge { .. } => "charge",
+        }
+    }
+
+    /// The reading of a sweep's input by the archive profile.
+    pub fn strict(self) -> Case {
+        match self {
+            Case::Sweep { clock, scheme, lent, file, body } => Case::Strict { clock, scheme, lent, file, body },
+            other => other,
         }
     }
 
@@ -304,10 +321,11 @@ impl Case {
         }
     }
 
-    /// The ordinary reading of a gap reading's input, of a plan's, or of the first of two bodies.
+    /// The ordinary reading of another reading's input, or of the first of two bodies.
     pub fn ordinary(self) -> Case {
         match self {
-            Case::Gaps { clock, scheme, lent, file, body, .. }
+            Case::Strict { clock, scheme, lent, file, body }
+            | Case::Gaps { clock, scheme, lent, file, body, .. }
             | Case::Merge { clock, scheme, lent, file, body, .. }
             | Case::Plan { clock, scheme, lent, file, body, .. } => Case::Sweep { clock, scheme, lent, file, body },
             other => other,
@@ -330,6 +348,7 @@ impl Case {
         };
         let case = match word(0)? {
             "sweep" => sweep(7)?,
+            "strict" => sweep(7)?.strict(),
             "gaps" => sweep(8)?.with_marks(number(word(7)?)?),
             "merge" => sweep(8)?.with_marks(number(word(7)?)?).with_second(bytes(10)?),
             "plan" => sweep(8)?.with_plan(number(word(7)?)?, bytes(10)?),
@@ -377,7 +396,7 @@ impl Case {
     pub fn line(&self, name: &str) -> String {
         let kind = self.kind();
         let inputs = match self {
-            Case::Sweep { clock, scheme, lent, file, body } => {
+            Case::Sweep { clock, scheme, lent, file, body } | Case::Strict { clock, scheme, lent, file, body } => {
                 let Lent { azimuths, codes, physical } = lent;
                 format!("{clock} {} {azimuths} {codes} {physical} {} {}", scheme.text(), hex(file), hex(body))
             }

@@ -331,7 +331,8 @@ fn accepted(case: &Case) -> Result<Answer, Refusal> {
         Case::Sweep { clock, scheme, lent, file, body } => {
             Answer::Sweep(Box::new(sweep(read_sweep(file, *clock, *scheme, body, *lent)?)))
         }
-        Case::Gaps { .. }
+        Case::Strict { .. }
+        | Case::Gaps { .. }
         | Case::Merge { .. }
         | Case::Plan { .. }
         | Case::Export { .. }

@@ -64,6 +64,18 @@ fn main() {
         Job { entries, rounds, name, body, lent }.merge();
     }
     println!();
+    println!("| packet | archive profile, class | sweep, µs | by the profile, µs | profile / sweep |");
+    println!("|---|---|---:|---:|---:|");
+    for (name, body, radials, bins) in [
+        ("16, 720 × 1840", &sixteen, 720, 1840),
+        ("AF1F, 360 × 460, runs to 15", &runs[0], 360, 460),
+        ("AF1F, 360 × 460, runs to 4", &runs[1], 360, 460),
+        ("28, 360 × 920", &levels, 360, 920),
+    ] {
+        let lent = Lent { azimuths: radials, codes: radials * bins, physical: radials * bins };
+        Job { entries, rounds, name, body, lent }.strict();
+    }
+    println!();
     println!("| packet | plan, precipitation | sweep, µs | with totals, µs | totals / sweep |");
     println!("|---|---|---:|---:|---:|");
     let lent = Lent { azimuths: 720, codes: 720 * 1840, physical: 720 * 1840 };
@@ -156,6 +168,19 @@ impl Job<'_> {
         let [gaps, merged] =
             self.medians([Timer::new(|| assert_eq!(one.gaps(), 0)), Timer::new(|| assert_eq!(other.merge(&second), 0))]);
         println!("| {} | no gap in either | {gaps:.1} | {merged:.1} | {:.2} |", self.name, merged / gaps);
+    }
+
+    /// The reading by the archive profile beside the ordinary one; the Rust has none.
+    fn strict(&self) {
+        let file = sample::bench_files().into_iter().find(|(_, scheme, _)| *scheme == Scheme::Class).unwrap().2;
+        let (lent, body) = (self.lent, self.body.to_vec());
+        let case = Case::Strict { clock: CLOCK.into(), scheme: Scheme::Class, lent, file: file.clone(), body };
+        self.alike(&case, wanted::answer(&case));
+        let mut one = Timed::new(self.entries, &file, CLOCK, Scheme::Class, self.body, self.lent);
+        let mut other = Timed::new(self.entries, &file, CLOCK, Scheme::Class, self.body, self.lent);
+        let [sweep, strict] =
+            self.medians([Timer::new(|| assert_eq!(one.sweep(), 0)), Timer::new(|| assert_eq!(other.strict(), 0))]);
+        println!("| {} | whole body | {sweep:.1} | {strict:.1} | {:.2} |", self.name, strict / sweep);
     }
 
     /// A plan beside the ordinary reading; the Rust has none.

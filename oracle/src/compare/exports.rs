@@ -41,6 +41,7 @@ impl Compare {
         *body = written;
         let before = self.both(original);
         let after = self.both(&case);
+        self.export_passes(&case, &after.1);
         if !legacy {
             self.held_alike(&case, before, after);
             self.counts.export_laws[1] += 1;

@@ -1,6 +1,6 @@
 //! The cases that every run has: short inputs and day numbers exhaustively, every length of small files and bodies, every byte of
-//! them, rows of every length up to 200 cells, radials of every mix of lengths, gaps in all of these, clear scans, exports, the places
-//! outside the Rust's domain, the caps, and the two grid sizes.
+//! them, rows of every length up to 200 cells, radials of every mix of lengths, gaps in all of these, clear scans, exports, readings
+//! by the archive profile, the places outside the Rust's domain, the caps, and the two grid sizes.
 use super::plans::{with_flags, PRECIP};
 use super::Compare;
 use crate::make::body::{self, Body};
@@ -65,6 +65,7 @@ impl Compare {
         self.level_counts(seed);
         self.charges_fixed();
         self.exports_fixed(seed);
+        self.strict_fixed(seed);
         self.tenths();
         self.mixed_radials(seed);
         self.every_centre(seed);

@@ -115,6 +115,71 @@ pub fn clear(rng: &mut Rng, packet: Packet) -> Body {
     Body { bytes, packet, radials: 0, bins, ends: vec![2, 4, 18, 30], starts: vec![], marks: vec![] }
 }
 
+/// A body for the archive: its rows and its end are exact, but for some of the time a row or more with surplus, or bytes after the last
+/// radial or the payload. Zero runs and, after an odd row of packet 16, one byte more are no surplus.
+pub fn archived(rng: &mut Rng, packet: Packet) -> Body {
+    let (radials, bins) = size(rng);
+    let mut body = match packet {
+        Packet::P28 => {
+            let mut body = generic::body(rng, radials, bins);
+            let length = u32::from_be_bytes(body.bytes[20..24].try_into().unwrap());
+            body.bytes.truncate(24 + length as usize);
+            body
+        }
+        _ => {
+            let over = if rng.one_in(3) { rng.below(radials) } else { radials };
+            archived_radials(rng, packet, (radials, bins), over)
+        }
+    };
+    if rng.one_in(4) {
+        let tail = rng.between(1, 3);
+        body.bytes.extend(rng.bytes(tail));
+    }
+    body
+}
+
+/// Radial `over` has surplus, and some after it.
+fn archived_radials(rng: &mut Rng, packet: Packet, (radials, bins): (usize, usize), over: usize) -> Body {
+    let mut bytes = header(rng, packet, radials, bins);
+    let (mut ends, mut starts) = (vec![2, 4, 18, 30], vec![]);
+    for radial in 0..radials {
+        let surplus = radial == over || radial > over && rng.one_in(2);
+        let data = if packet == Packet::P16 {
+            let odd = bins % 2 == 1;
+            let more = match surplus {
+                true => rng.between(1, 2) + usize::from(odd),
+                false => usize::from(odd && rng.one_in(2)),
+            };
+            let mut data = rng.bytes(bins + more);
+            if more > 0 && rng.one_in(2) {
+                data[bins] = 0;
+            }
+            data
+        } else {
+            let mut data = runs(rng, bins, 1);
+            // what was put there to make the number even becomes a zero run
+            let mut sum = 0;
+            for run in &mut data {
+                if sum == bins {
+                    *run &= 15;
+                }
+                sum += usize::from(*run >> 4);
+            }
+            if surplus {
+                data.extend([rng.below(16) as u8, rng.pick(&[0x10, 0x1f, 0x37, 0xf0])]);
+            }
+            data
+        };
+        let count = if packet == Packet::P16 { data.len() } else { data.len() / 2 };
+        starts.push(bytes.len());
+        bytes.extend([count as u16, start(rng), rng.between(1, 100) as u16].map(u16::to_be_bytes).concat());
+        ends.push(bytes.len());
+        bytes.extend(data);
+        ends.push(bytes.len());
+    }
+    Body { bytes, packet, radials, bins, ends, starts, marks: vec![] }
+}
+
 /// Damages a clear scan: another first bin, no bins, a radial that is not there, or as other bodies.
 pub fn damage_clear(rng: &mut Rng, body: &mut Body) {
     match rng.below(8) {

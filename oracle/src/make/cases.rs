@@ -561,6 +561,26 @@ pub fn export(rng: &mut Rng) -> (Case, Case) {
     (export, Case::Sweep { clock, scheme, lent, file: file.bytes, body: body.bytes })
 }
 
+/// A reading by the archive profile, of bodies with surplus and without, some of them clear scans or damaged.
+pub fn strict(rng: &mut Rng) -> Case {
+    let packet = rng.pick(&Packet::ALL);
+    let what = rng.below(16);
+    if what < 2 {
+        return clear(rng).ordinary().strict();
+    }
+    let scheme = if what == 2 { scheme(rng) } else { fitting_scheme(rng, packet) };
+    let Time { days, seconds, clock } = time(rng);
+    let mut file = file::file(rng, scheme, days, seconds);
+    let mut body = body::archived(rng, packet);
+    let lent = if what == 3 { scant(rng, &body) } else { enough(rng, &body) };
+    match what {
+        4 => spoil_file(rng, &mut file),
+        5..=8 => body::damage(rng, &mut body),
+        _ => {}
+    }
+    Case::Strict { clock, scheme, lent, file: file.bytes, body: body.bytes }
+}
+
 pub fn symbology(rng: &mut Rng) -> Case {
     let packet = rng.pick(&Packet::ALL);
     let mut body = body::good(rng, packet);

@@ -1,0 +1,3 @@
+pub mod Surplus
+pub mod Archive
+pub mod Steps
