@@ -102,6 +102,30 @@ enum { L3_AZIMUTHS = 0, L3_CODES = 1, L3_PHYSICAL = 2, L3_MARKS = 3, L3_TOTALS =
 /* How many message codes are known. */
 enum { L3_KNOWN_CODES = 26 };
 
+/* Places of ints and floats of l3_product; the moments and units that it names, after the Rust. */
+enum { L3_KNOWN = 0, L3_SCHEME = 1, L3_MOMENT = 2, L3_UNIT = 3, L3_GATE_LENGTH = 4, L3_HAS_ELEVATION = 5 };
+enum { L3_PARAMETER = 0 };
+enum {
+    L3_DBZH = 0,          /* reflectivity */
+    L3_VRADH = 1,         /* radial velocity */
+    L3_WRADH = 2,         /* spectrum width */
+    L3_SRMV = 3,          /* storm relative velocity */
+    L3_ZDR = 4,           /* differential reflectivity */
+    L3_RHOHV = 5,         /* correlation coefficient */
+    L3_KDP = 6,           /* specific differential phase */
+    L3_HCLASS = 7,        /* hydrometeor class */
+    L3_ACCUM = 8,         /* rain */
+    L3_RATE = 9           /* rain rate */
+};
+enum { L3_DBZ = 0, L3_METRES_PER_SECOND = 1, L3_DECIBELS = 2, L3_RATIO = 3, L3_DEGREES_PER_KILOMETRE = 4, L3_CLASSES = 5,
+       L3_MILLIMETRES = 6, L3_MILLIMETRES_PER_HOUR = 7 };
+
+/* Places that l3_refusal_name writes. */
+enum { L3_NAME = 32 };
+
+/* The version of this header; l3_version has the library's. */
+#define L3_VERSION 40000
+
 /* The sweep of a file and its unpacked symbology body. clock is the present in seconds since 1970; one above 2^40 is refused with 6.
  * Accepted, the front of each buffer is written, and the rest left as it is: a centre in degrees for each radial to azimuths, the codes
  * by row to codes, their physical values to physical. A centre of packet 16 or AF1F is from 0 up to but not including 360; that of packet
@@ -153,6 +177,15 @@ uint32_t l3_totals(const uint8_t *file, size_t file_len, uint64_t clock, uint32_
                    const uint8_t *body, size_t body_len, const uint8_t *plan, size_t plan_len,
                    double *azimuths, size_t azimuths_len, uint16_t *codes, size_t codes_len, float *physical, size_t physical_len,
                    uint64_t *totals, size_t totals_len, int64_t *ints, size_t ints_len, double *floats, size_t floats_len);
+
+/* The totals of a field plan over the codes of any picture of radials * bins cells, row after row: one that l3_merge gave, say. The scale is
+ * that of the description block at place block, with factor, as in l3_precip. Accepted, the totals stand in the front of totals as
+ * l3_totals leaves them, and ints[0] is how many; later places are left as they are. A cell of a gap has code 0: whether a strip lies in
+ * one only the marks tell. Refused are, in this order: what l3_precip refuses; with 36 codes of fewer places than cells; what l3_totals
+ * refuses with 37, 38, 39 and then 36. After a refusal totals is as it was. */
+uint32_t l3_plan_totals(const uint8_t *file, size_t file_len, size_t block, float factor, const uint16_t *codes, size_t codes_len,
+                        size_t radials, size_t bins, const uint8_t *plan, size_t plan_len, uint64_t *totals, size_t totals_len,
+                        int64_t *ints, size_t ints_len, double *floats, size_t floats_len);
 
 /* A symbology body alone, of any packet. ints[L3_PACKET] to [L3_RANGE_SCALE], floats[L3_GATE_WIDTH] and [L3_FIRST_GATE] and the two
  * buffers as in l3_sweep. */
@@ -225,6 +258,17 @@ uint32_t l3_trailing(const uint8_t *bytes, size_t bytes_len, int64_t *ints, size
 
 /* 1 if the message code is known, else 0. */
 uint32_t l3_known(int16_t code);
+
+/* What the products of a message code are. ints[L3_KNOWN] is 1 for a known code, else 0, and then all other places too. floats[L3_PARAMETER]
+ * is the parameter that goes with the scheme. The gate length is in metres, 0 where the code does not fix it: then the packet has it. */
+uint32_t l3_product(int16_t code, int64_t *ints, size_t ints_len, double *floats, size_t floats_len);
+
+/* The name of a refusal as the README's table has it, in ASCII with zero bytes behind it, in the first L3_NAME places of name; later places
+ * are left as they are. name_len must be L3_NAME or more. Returns 0, or 101 for a number that is no refusal's. */
+uint32_t l3_refusal_name(uint32_t number, uint8_t *name, size_t name_len);
+
+/* The library's version: major * 10000 + minor * 100 + patch. */
+uint32_t l3_version(void);
 
 /* The known message codes, ascending, in the first L3_KNOWN_CODES places of table; later places are left as they are. table_len must be
  * L3_KNOWN_CODES or more. Returns 0 or 101. */

@@ -43,6 +43,8 @@ pub struct Counts {
     pub plans: [[Split; 5]; 3],
     /// Accepted plans with a strip cut in two, with a strip moved, with another code in a cell.
     pub plan_laws: [u64; 3],
+    /// Calls of `l3_plan_totals` held to the reading with the plan, or to 36.
+    pub totals_alone: u64,
     /// Charges beside that of a larger total, and beside those with one rate altered.
     pub charge_laws: [u64; 2],
     /// Second bodies of demand 3.
@@ -367,8 +369,10 @@ impl Compare {
             61 => cases::read(rng),
             62..=71 => cases::symbology(rng),
             72..=77 => return self.damage(rng),
-            78..=80 => cases::token(rng),
-            81 | 82 => cases::message_header(rng),
+            78 | 79 => cases::token(rng),
+            80 => cases::message_header(rng),
+            81 => cases::product(rng),
+            82 => cases::name(rng),
             83..=85 => cases::scan_time(rng),
             86 | 87 => cases::field(rng),
             88..=92 => cases::block(rng),
@@ -517,8 +521,8 @@ impl Counts {
         println!("by answer:");
         println!("  accepted {:>32}", self.accepted);
         for (number, count) in &self.refusals {
-            let name = NAMES.get(*number as usize - 1).unwrap_or(&"?");
-            println!("  {number:>2} {name:<28} {count:>9}");
+            let name = NAMES.get(*number as usize - 1).unwrap_or(&"(a bad argument)");
+            println!("  {number:>3} {name:<27} {count:>9}");
         }
         print_table("sweeps by packet and scheme, accepted / refused:", &self.sweeps);
         print_table("gap readings by packet and scheme, accepted / refused:", &self.gaps);
@@ -530,6 +534,7 @@ impl Counts {
         print_table("field plans by packet and scheme, accepted / refused:", &self.plans);
         let [cut, moved, code] = self.plan_laws;
         println!("  held to another: a strip cut in two {cut}, a strip moved {moved}, another code in a cell {code}");
+        println!("  the totals alone: {}", self.totals_alone);
         let [larger, rates] = self.charge_laws;
         println!("charges held to another: a larger total {larger}, each rate altered {rates}");
         print_table("damaged bodies (demand 3), accepted / refused:", &self.damaged);

@@ -13,6 +13,7 @@ mod clear;
 mod exports;
 mod merges;
 mod plans;
+mod products;
 mod strict;
 
 macro_rules! slips {
@@ -108,6 +109,9 @@ slips! {
     OneTotalMore,
     RefusalWritesTotals,
     PlanWritesNoPicture,
+    TotalsOfFewerCodes,
+    TotalsOfCellsIn64Bits,
+    TotalsAloneOneMore,
     LowCeilingHasALevel,
     LastCodeMissed,
     LevelCountIn16Bits,
@@ -206,6 +210,13 @@ slips! {
     StrictAfterRoom,
     StrictBeforeLaterRadial,
     StrictRefusalWrites,
+    RateInHundredths,
+    GateOfCodeBefore,
+    LaterCodesKnown,
+    NamesExchanged,
+    NameWithoutZeros,
+    NameInFewerPlaces,
+    ShortNameRefusalWrites,
 }
 
 /// 1 + the slip's place in `SLIPS`, or 0.
@@ -228,6 +239,7 @@ pub fn entries() -> Entries {
         gaps,
         merge,
         totals,
+        plan_totals,
         symbology,
         export16,
         token,
@@ -244,6 +256,9 @@ pub fn entries() -> Entries {
         physical,
         trailing,
         known,
+        product: products::product,
+        refusal_name: products::refusal_name,
+        version: products::version,
         codes,
         xdr,
         items,
@@ -554,6 +569,44 @@ unsafe extern "C" fn symbology(
             0
         }
         _ => unreachable!(),
+    }
+}
+
+unsafe extern "C" fn plan_totals(
+    file: *const u8,
+    file_len: usize,
+    block: usize,
+    factor: f32,
+    codes: *const u16,
+    codes_len: usize,
+    radials: usize,
+    bins: usize,
+    plan: *const u8,
+    plan_len: usize,
+    totals: *mut u64,
+    totals_len: usize,
+    ints: *mut i64,
+    ints_len: usize,
+    floats: *mut f64,
+    floats_len: usize,
+) -> u32 {
+    let Some(mut report) = report(ints, ints_len, floats, floats_len) else { return SHORT_REPORT };
+    let (file, totals) = (bytes(file, file_len), from_raw_parts_mut(totals, totals_len));
+    if let Answer::Refused(r) = answer(&Case::Prc { file: file.clone(), block, factor }) {
+        return report.refuse(&r);
+    }
+    let bounds = model::valid_codes(&file, block);
+    let codes = from_raw_parts(codes, codes_len);
+    match plans::alone(codes, (radials, bins), bounds, from_raw_parts(plan, plan_len), totals_len) {
+        Err(r) => report.refuse(&r),
+        Ok(made) => {
+            totals[..made.len()].copy_from_slice(&made);
+            if let (true, Some(next)) = (slips(TotalsAloneOneMore), totals.get_mut(made.len())) {
+                *next = 0;
+            }
+            report.ints[0] = made.len() as i64;
+            0
+        }
     }
 }
 

@@ -3,7 +3,7 @@
 //! unread, and what row a radial's data make or that they make none; and of document 02 the centres, the gaps, the dates,
 //! the count of levels, the charges, the clear scans, the whole numbers of the description record and, in plans.rs, the field
 //! plans; in merges.rs two receptions merged; in strict.rs the archive profile; in tenths.rs how close the tenths are, and in
-//! export.rs what is exported.
+//! export.rs what is exported. Beyond the documents the units of the moments and the library's version.
 use lines::{Answer, Date, Packet, Picture, Refusal, Scheme, Sweep};
 use std::ops::Range;
 
@@ -16,6 +16,24 @@ pub mod tenths;
 /// The codes of the products.
 pub const CODES: [u16; 26] =
     [19, 20, 25, 27, 28, 30, 56, 78, 79, 80, 94, 99, 153, 154, 155, 159, 161, 163, 165, 170, 172, 173, 174, 175, 176, 177];
+
+/// The version that the library says.
+pub const VERSION: u32 = 40_000;
+
+/// The unit of a moment.
+pub fn unit(moment: &str) -> &'static str {
+    match moment {
+        "DBZH" => "dBZ",
+        "VRADH" | "WRADH" | "SRMV" => "m/s",
+        "ZDR" => "dB",
+        "RHOHV" => "ratio",
+        "KDP" => "deg/km",
+        "HCLASS" => "class",
+        "ACCUM" => "mm",
+        "RATE" => "mm/h",
+        other => panic!("no moment is called {other}"),
+    }
+}
 
 /// The first of six alphanumerics in the first 128 bytes.
 pub fn token_place(file: &[u8]) -> Option<usize> {

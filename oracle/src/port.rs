@@ -21,10 +21,11 @@
 //! | l3_xdr, l3_items | 0 value, or 0 start and 1 length; 15 the position after the read, also on a refusal (item 7: 0 the bytes left, no position) | 0 value |
 //! | l3_read | 0 whether the number is there, 1 the number | |
 //! | l3_charge | 0 charge, 1 remainder | |
+//! | l3_product | 0 whether the code is known, 1 scheme, 2 moment, 3 unit, 4 gate length or 0, 5 whether there is an elevation; all else 0 | 0 the scheme's parameter; all else 0 |
 use crate::fence::Fence;
 use lines::{
-    Answer, Case, Date, Each, FieldKind, Fields, Geometry, Item, Lent, Packet, Picture, Refusal, Scale, Scheme, Sweep,
-    BUFFERS, EACH,
+    Answer, Case, Date, Each, FieldKind, Fields, Geometry, Item, Lent, Packet, Picture, Product, Refusal, Scale, Scheme,
+    Sweep, BUFFERS, EACH, MOMENTS, UNITS,
 };
 
 macro_rules! entries {
@@ -78,6 +79,11 @@ entries! {
         azimuths: *mut f64, azimuths_len: usize, codes: *mut u16, codes_len: usize, physical: *mut f32, physical_len: usize,
         totals: *mut u64, totals_len: usize, ints: *mut i64, ints_len: usize, floats: *mut f64, floats_len: usize,
     );
+    plan_totals: l3_plan_totals(
+        file: *const u8, file_len: usize, block: usize, factor: f32, codes: *const u16, codes_len: usize, radials: usize, bins: usize,
+        plan: *const u8, plan_len: usize, totals: *mut u64, totals_len: usize,
+        ints: *mut i64, ints_len: usize, floats: *mut f64, floats_len: usize,
+    );
     symbology: l3_symbology(
         body: *const u8, body_len: usize, azimuths: *mut f64, azimuths_len: usize, codes: *mut u16, codes_len: usize,
         ints: *mut i64, ints_len: usize, floats: *mut f64, floats_len: usize,
@@ -126,6 +132,9 @@ entries! {
         bytes: *const u8, bytes_len: usize, ints: *mut i64, ints_len: usize, floats: *mut f64, floats_len: usize,
     );
     known: l3_known(code: i16);
+    product: l3_product(code: i16, ints: *mut i64, ints_len: usize, floats: *mut f64, floats_len: usize);
+    refusal_name: l3_refusal_name(number: u32, name: *mut u8, name_len: usize);
+    version: l3_version();
     codes: l3_codes(codes: *mut u16, codes_len: usize);
     xdr: l3_xdr(
         op: u32, payload: *const u8, payload_len: usize, at: usize,
@@ -151,6 +160,8 @@ pub const FLOATS: usize = 8;
 pub const SHORT_REPORT: u32 = 100;
 /// The answer when another argument is not one that the entry takes.
 pub const BAD_ARGUMENT: u32 = 101;
+/// The places that a refusal's name has.
+pub const NAME: usize = 32;
 /// How the packets are named in ints[6].
 pub const PACKETS: [i64; 3] = [16, 44831, 28];
 /// The items of `l3_xdr`, by number.
@@ -333,6 +344,11 @@ impl Port {
                 self.small(bytes, |b, n, i, fl| unsafe { entry(b, n, i, INTS, fl, FLOATS) }, |_| Answer::Accepted)
             }
             Case::Known { code } => Answer::Number(unsafe { (self.entries.known)(*code) }.into()),
+            Case::Product { code } => {
+                let entry = self.entries.product;
+                self.small(&[], |_, _, i, fl| unsafe { entry(*code, i, INTS, fl, FLOATS) }, Port::product)
+            }
+            Case::Name { number, places } => self.name(*number, *places),
             Case::Codes => self.codes(),
             Case::Xdr { ops, payload } => self.xdr(ops, payload),
             Case::Each { payload } => self.each(payload),
@@ -374,6 +390,10 @@ impl Port {
         }
     }
 
+    pub fn version(&self) -> u32 {
+        unsafe { (self.entries.version)() }
+    }
+
     /// The place of the description block in a file that has one.
     pub fn block(&mut self, file: &[u8]) -> usize {
         let Answer::Number(header) = self.message_header(file) else {
@@ -404,6 +424,31 @@ impl Port {
         Ok(self.physical.memory[..written].iter().map(|b| f32::from_bits(*b)).collect())
     }
 
+    /// The totals of a plan over the codes of a picture of so many radials and bins, for a buffer of `lent` places.
+    pub fn plan_totals(
+        &mut self,
+        (file, block, factor): (&[u8], usize, f32),
+        (codes, radials, bins): (&[u16], usize, usize),
+        plan: &[u8],
+        lent: usize,
+    ) -> Result<Vec<u64>, Refusal> {
+        self.lend(Lent { azimuths: 0, codes: 0, physical: 0 });
+        self.totals.lend(lent.min(MOST_TOTALS), pattern64);
+        let refused = self.call_plan_totals((file, block, factor), (codes, radials, bins), plan, (INTS, FLOATS));
+        self.check_report();
+        if refused != 0 {
+            self.check_kept([0; 6]);
+            return Err(self.refusal(refused));
+        }
+        let written: usize = self.whole(0);
+        if written > self.totals.lent {
+            self.found(format!("accepted {written} totals with {} places lent for them", self.totals.lent));
+            return Ok(vec![]);
+        }
+        self.check_kept([0, 0, 0, 0, written, 0]);
+        Ok(self.totals.memory[..written].to_vec())
+    }
+
     /// The levels of the thresholds of the block at a place.
     pub fn levels_at(&mut self, file: &[u8], block: usize, post_scale: f32) -> Answer {
         match self.thresholds(file, block) {
@@ -412,7 +457,7 @@ impl Port {
         }
     }
 
-    /// The fault of the last `xdr_at`, `values` or `levels_at`.
+    /// The fault of the last `xdr_at`, `values`, `plan_totals` or `levels_at`.
     pub fn take_fault(&mut self) -> Option<String> {
         self.fault.take()
     }
@@ -477,6 +522,7 @@ impl Port {
         self.output.lend(30, pattern8);
         let export = self.call_export(&CLEAR, (ints, floats));
         let physical = self.call_physical(&[], 0, (4, 0.0), &[1, 2], (ints, floats));
+        let plan_totals = self.call_plan_totals((&[], 0, 1.0), (&[], 0, 0), &[], (ints, floats));
         let (i, f) = (self.ints.as_mut_ptr(), self.floats.as_mut_ptr());
         let bytes = self.file.place(b"N0BLOT");
         let mut data = [0u8; 32];
@@ -485,6 +531,7 @@ impl Port {
                 ("l3_symbology", symbology),
                 ("l3_export16", export),
                 ("l3_physical", physical),
+                ("l3_plan_totals", plan_totals),
                 ("l3_token", (e.token)(bytes, 6, i, ints, f, floats)),
                 ("l3_message_header", (e.message_header)(bytes, 6, i, ints, f, floats)),
                 ("l3_scan_time", (e.scan_time)(1, 0, 0, i, ints, f, floats)),
@@ -499,6 +546,7 @@ impl Port {
                 ("l3_xdr", (e.xdr)(0, bytes, 6, 0, i, ints, f, floats)),
                 ("l3_items", (e.items)(0, bytes, 6, i, ints, f, floats)),
                 ("l3_read", (e.read)(0, bytes, 6, 0, i, ints, f, floats)),
+                ("l3_product", (e.product)(94, i, ints, f, floats)),
                 ("l3_charge", (e.charge)(7, [1 << 40].as_ptr(), 1, [5].as_ptr(), 1, i, ints, f, floats)),
             ]
         };
@@ -683,6 +731,47 @@ impl Port {
             self.found(format!("place {at} past the codes was written"));
         }
         Answer::Codes(self.codes.memory[..26].to_vec())
+    }
+
+    /// The product that the report holds. Of a code that is not known it holds zeros alone.
+    fn product(&mut self) -> Answer {
+        let [known, scheme, moment, unit, elevation] = [0, 1, 2, 3, 5].map(|at| self.whole::<usize>(at));
+        let (gate, parameter) = (self.whole(4), self.narrow(0));
+        let (Some(scheme), Some(moment), Some(unit), 0..=1, 0..=1) =
+            (Scheme::of(scheme, parameter), MOMENTS.get(moment), UNITS.get(unit), known, elevation)
+        else {
+            self.found(format!("ints[0] to [5] are {:?}", &self.ints[..6]));
+            return Answer::Accepted;
+        };
+        let places: Vec<usize> = (6 * known..INTS).collect();
+        self.zero_ints(&places);
+        let zeros = self.floats[1..FLOATS].iter().all(|x| x.to_bits() == 0);
+        if !zeros || scheme.parameter().to_bits() != parameter.to_bits() {
+            self.found(format!("floats are {:?} under scheme {}", &self.floats[..FLOATS], scheme.index()));
+        }
+        let gate = (gate != 0).then_some(gate);
+        Answer::Product((known == 1).then_some(Product { scheme, moment, unit, gate, elevation: elevation == 1 }))
+    }
+
+    /// A name and the zeros behind it, or 101.
+    fn name(&mut self, number: u32, places: usize) -> Answer {
+        let places = places.min(MOST_OUTPUT);
+        let out = self.output.lend(places, pattern8);
+        let refused = unsafe { (self.entries.refusal_name)(number, out, places) };
+        let written = if refused == 0 { NAME } else { 0 };
+        if written > places {
+            self.found(format!("accepted a name with {places} places lent for it"));
+            return Answer::Accepted;
+        }
+        if let Some(at) = self.output.touched(written) {
+            self.found(format!("place {at} of the name's buffer, which must be kept, was written"));
+        }
+        if refused != 0 {
+            return Answer::Refused(self.refusal(refused));
+        }
+        let name = &self.output.memory[..NAME];
+        let len = name.iter().rposition(|b| *b != 0).map_or(0, |i| i + 1);
+        Answer::Name(name[..len].to_vec())
     }
 
     fn xdr(&mut self, ops: &str, payload: &[u8]) -> Answer {
@@ -887,6 +976,37 @@ impl Port {
                 codes.len(),
                 self.physical.memory.as_mut_ptr() as *mut f32,
                 self.physical.lent,
+                self.ints.as_mut_ptr(),
+                report.0,
+                self.floats.as_mut_ptr(),
+                report.1,
+            )
+        }
+    }
+
+    fn call_plan_totals(
+        &mut self,
+        (file, block, factor): (&[u8], usize, f32),
+        (codes, radials, bins): (&[u16], usize, usize),
+        plan: &[u8],
+        report: (usize, usize),
+    ) -> u32 {
+        let bytes: Vec<u8> = codes.iter().flat_map(|c| c.to_ne_bytes()).collect();
+        let (file_at, codes_at, plan_at) = (self.file.place(file), self.body.place(&bytes), self.plan.place(plan));
+        unsafe {
+            (self.entries.plan_totals)(
+                file_at,
+                file.len(),
+                block,
+                factor,
+                codes_at as *const u16,
+                codes.len(),
+                radials,
+                bins,
+                plan_at,
+                plan.len(),
+                self.totals.memory.as_mut_ptr(),
+                self.totals.lent,
                 self.ints.as_mut_ptr(),
                 report.0,
                 self.floats.as_mut_ptr(),

@@ -921,6 +921,18 @@ pub fn strict() -> Vec<(String, Case)> {
     list.0.into_iter().map(|(name, case)| (name, case.strict())).collect()
 }
 
+/// The products of the first code and the last, of every scheme, moment and unit; codes that are not known.
+pub fn products() -> Vec<(String, Case)> {
+    let codes = [19, 30, 56, 78, 99, 159, 161, 163, 165, 170, 176, 177, 178, -177];
+    codes.map(|code| (format!("product_{code}"), Case::Product { code })).to_vec()
+}
+
+/// The names of the first refusal and the last, the shortest and the longest; numbers of none, and too few places.
+pub fn names() -> Vec<(String, Case)> {
+    let names = [(1, 32), (15, 33), (32, 32), (46, 40), (0, 32), (47, 32), (u32::MAX, 40), (1, 31)];
+    names.map(|(number, places)| (format!("name_{number}_{places}"), Case::Name { number, places })).to_vec()
+}
+
 /// Rows of 130 cells, so two blocks of 64 and a rest, of every packet under every scheme that it allows.
 fn blocks(list: &mut List) {
     let bytes: Vec<u8> = (0..261).map(|i| (i * 7 % 256) as u8).collect();
@@ -1025,7 +1037,8 @@ fn smaller(list: &mut List) {
     }
 }
 
-/// The edges, cases made from a seed until each refusal and each packet under each scheme has a few, and what document 02 adds.
+/// The edges, cases made from a seed until each refusal and each packet under each scheme has a few, and what document 02
+/// adds; the products and the names last.
 pub fn list() -> Vec<(String, Case)> {
     let mut list = edges();
     let mut seen: HashMap<String, usize> = HashMap::new();
@@ -1066,6 +1079,8 @@ pub fn list() -> Vec<(String, Case)> {
     list.extend(clear());
     list.extend(exports());
     list.extend(strict());
+    list.extend(products());
+    list.extend(names());
     list
 }
 

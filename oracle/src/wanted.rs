@@ -1,7 +1,8 @@
 //! The answer that the port is held to: the Rust's, with what document 02 alters put into it by the model, and the model's to what
 //! the Rust has no function for.
 use crate::model;
-use lines::{Answer, Case, Lent, Packet, Refusal, Scheme};
+use crate::port::{BAD_ARGUMENT, NAME};
+use lines::{Answer, Case, Lent, Packet, Refusal, Scheme, NAMES};
 
 pub fn answer(case: &Case) -> Answer {
     match case {
@@ -13,8 +14,26 @@ pub fn answer(case: &Case) -> Answer {
         Case::Export { out, body } => export(*out, body),
         Case::Date { days } => model::date(*days).map_or_else(Answer::Refused, Answer::Date),
         Case::Charge { total, ends, rates } => model::charge(*total, ends, rates).unwrap_or_else(Answer::Refused),
+        Case::Name { number, places } => name(*number, *places),
+        Case::Product { .. } => with_unit(radish::answer(case)),
         _ => altered(case, radish::answer(case)),
     }
+}
+
+/// A refusal's name, which asks for 32 places.
+fn name(number: u32, places: usize) -> Answer {
+    match (number as usize).checked_sub(1).and_then(|at| NAMES.get(at)) {
+        Some(name) if places >= NAME => Answer::Name(name.as_bytes().to_vec()),
+        _ => Answer::Refused(Refusal::new(BAD_ARGUMENT, &[])),
+    }
+}
+
+/// A product of the Rust's with the unit of its moment, which the Rust has not.
+pub fn with_unit(mut answer: Answer) -> Answer {
+    if let Answer::Product(Some(product)) = &mut answer {
+        product.unit = model::unit(product.moment);
+    }
+    answer
 }
 
 /// M-112, from the ordinary reading: where nothing is refused before 10, what the body holds beside its rows comes first.

@@ -41,6 +41,8 @@ fn a_case_survives_its_line() {
             cases::read(rng),
             cases::scan_time(rng),
             cases::date(rng),
+            cases::product(rng),
+            cases::name(rng),
             cases::charge(rng),
             cases::export(rng).0,
         ] {

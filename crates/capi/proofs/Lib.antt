@@ -1,3 +1,4 @@
 pub mod Answers
 pub mod Coherence
 pub mod Constants
+pub mod Naming

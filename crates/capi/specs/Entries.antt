@@ -2,11 +2,11 @@
 use Rattle.std.specs.Prelude.{◌≡◌, ℕ, ◌-◌, cond, ◌&&◌, List, [], ◌∷◌, length, ◌==◌, nat_lt, Float}
 use Rattle.std.specs.Prelude as Std
 use Rattle.wire.specs.Reading.{walk}
-use Rattle.wire.specs.Result.{Result}
+use Rattle.wire.specs.Result.{Result, then}
 use Rattle.wire.specs.Products.{codes}
 use Rattle.wire.specs.Bytes.{read_u16, read_i16, read_i32}
 use Rattle.head.specs.Pdb.{hw_i16, hw_u16, hw_i32, hw_pair}
-use Rattle.scale.specs.Pdb.{threshold_place}
+use Rattle.scale.specs.Pdb.{precip_family_scale, threshold_place}
 use Rattle.scale.specs.Legacy.{levels_of}
 use Rattle.scale.specs.Physical.{fill_of}
 use Rattle.scale.specs.declared.physical.Scheme.{Scheme}
@@ -15,6 +15,7 @@ use Rattle.sweep.specs.Sweep.{Accepted, sweep_in, Buffers, read_into}
 use Rattle.sweep.specs.GapSweep.{GapSweep, gap_sweep_in, GapBuffers, gaps_into}
 use Rattle.sweep.specs.MergeSweep.{merge_into}
 use Rattle.fields.specs.Fields.{Totalled, totals_in, TotalsBuffers, totals_into}
+use Rattle.fields.specs.Picture.{picture_totals}
 use Rattle.export.specs.Export.{length_in}
 use Rattle.archive.specs.Archive.{strict_into}
 use Rattle.xdr.specs.Xdr as Xdr
@@ -118,7 +119,13 @@ pub record PictureLeaves (d : ℕ → ℕ → Result Picture) (number : ℕ) (az
   pub azimuths : az' ≡ lent_by (room_first ints floats (said (d (length az) (length cs)))) (λ p. p.azimuths) az
   pub codes : cs' ≡ lent_by (room_first ints floats (said (d (length az) (length cs)))) (λ p. p.codes) cs
 
--- The same of l3_export16, which writes what d gives to a buffer that held o.
+-- the totals of a plan over a picture's codes, by the precipitation scale of a description block, for a totals buffer of nt places
+abbrev pub plan_totals : List ℕ → ℕ → Float → List ℕ → ℕ → ℕ → List ℕ → ℕ → Result (List ℕ)
+plan_totals file block factor codes radials bins plan nt =
+    then (precip_family_scale file block factor) λ scale.
+    picture_totals codes radials bins scale plan nt
+
+-- The same of l3_export16 and l3_plan_totals, which write what d gives to a buffer that held o.
 pub record ExportLeaves (d : ℕ → Result (List ℕ)) (number : ℕ) (o o' : List ℕ) (ints ints' : List ℕ) (floats floats' : List Float) : Type 0 where
   pub report : Leaves (said (report_of (length_in (d (length o))) number_report)) number ints ints' floats floats'
   pub output : o' ≡ lent_by (room_first ints floats (said (d (length o)))) (λ b. b) o

@@ -3,10 +3,13 @@
 
 ghost use Rattle.calendar.specs.Calendar.{date_of};
 ghost use Rattle.capi.specs.Entries.{ExportLeaves, GapsLeave, PictureLeaves, SweepLeaves, TotalsLeave, codes_said, field_said, gaps_said, items_said};
-ghost use Rattle.capi.specs.Entries.{levels_said, merge_said, physical_said, read_said, strict_said, sweep_said, threshold_said, totals_said};
+ghost use Rattle.capi.specs.Entries.{levels_said, merge_said, physical_said, plan_totals, read_said, strict_said, sweep_said, threshold_said, totals_said};
 ghost use Rattle.capi.specs.Entries.{xdr_said};
+ghost use Rattle.capi.specs.Names.{name_said, version};
 ghost use Rattle.capi.specs.Places.{charge_report, date_report, fields_report, linear_report, no_report, number_report, precip_report};
+ghost use Rattle.capi.specs.Products.{product_report};
 ghost use Rattle.capi.specs.Report.{Leaves, lent_by, plain_after, plain_number, report_of, room_first, said, saying};
+ghost use Rattle.catalogue.specs.Catalogue.{product_of};
 ghost use Rattle.export.specs.Export.{export_of};
 ghost use Rattle.fields.specs.Fields.{totals_buffers};
 ghost use Rattle.head.specs.Header.{message_header, scan_time, token};
@@ -225,6 +228,29 @@ pub extern "C" fn l3_codes(table: &mut [u16]) -> u32
 }
 
 #[unsafe(no_mangle)]
+pub extern "C" fn l3_product(code: i16, ints: &mut [u64], floats: &mut [f64]) -> u32
+    ensures { Leaves (said (product_report (product_of code)))
+        result ints.old ints.new floats.old floats.new }
+{
+    capi::products::l3_product(code, ints, floats)
+}
+
+#[unsafe(no_mangle)]
+pub extern "C" fn l3_refusal_name(number: u32, name: &mut [u8]) -> u32
+    ensures value { result ≡ plain_number (name_said number (length name.old)) }
+    ensures name_after { name.new ≡ plain_after (name_said number (length name.old)) name.old }
+{
+    capi::names::l3_refusal_name(number, name)
+}
+
+#[unsafe(no_mangle)]
+pub extern "C" fn l3_version() -> u32
+    ensures { result ≡ version }
+{
+    capi::names::l3_version()
+}
+
+#[unsafe(no_mangle)]
 pub extern "C" fn l3_date(days: u16, ints: &mut [u64], floats: &mut [f64]) -> u32
     ensures { Leaves (said (report_of (date_of days) date_report))
         result ints.old ints.new floats.old floats.new }
@@ -350,6 +376,27 @@ pub extern "C" fn l3_totals(
 {
     capi::sweeps::l3_totals(
         file, clock, scheme, parameter, body, plan, azimuths, codes, physical, totals, ints, floats,
+    )
+}
+
+#[unsafe(no_mangle)]
+pub extern "C" fn l3_plan_totals(
+    file: &[u8],
+    block: usize,
+    factor: f32,
+    codes: &[u16],
+    radials: usize,
+    bins: usize,
+    plan: &[u8],
+    totals: &mut [u64],
+    ints: &mut [u64],
+    floats: &mut [f64],
+) -> u32
+    ensures { ExportLeaves (plan_totals file.now block factor codes.now radials bins plan.now) result totals.old totals.new
+        ints.old ints.new floats.old floats.new }
+{
+    capi::totals::l3_plan_totals(
+        file, block, factor, codes, radials, bins, plan, totals, ints, floats,
     )
 }
 

@@ -16,3 +16,4 @@ pub mod Order
 pub mod CodeRuns
 pub mod Clear
 pub mod Coherence
+pub mod PictureTotals

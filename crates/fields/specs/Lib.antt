@@ -6,3 +6,4 @@ pub mod Fields
 pub mod Clear
 pub mod Order
 pub mod WithTotals
+pub mod Picture

@@ -2,5 +2,6 @@
 #![tactic(auto)]
 
 pub mod fields;
+pub mod picture;
 pub mod plan;
 pub mod totals;

@@ -22,6 +22,7 @@ fn is_items(word: &[u8]) -> bool {
 fn fits(word: &[u8], form: Form) -> bool {
     match form {
         Form::Size => crate::words::is_size(word),
+        Form::Number => crate::words::is_unsigned(word, u64::from(u32::MAX)),
         Form::Days => crate::words::is_unsigned(word, u64::from(u16::MAX)),
         Form::Seconds => crate::words::is_signed(word, u64::from(i32::MAX.unsigned_abs())),
         Form::Code => crate::words::is_signed(word, u64::from(i16::MAX.unsigned_abs())),
@@ -54,6 +55,8 @@ fn print(out: &mut Vec<u8>, case: Case, kind: Kind) -> io::Result<()> {
         Kind::Charge => crate::charges::answer(out, case),
         Kind::Legacy => crate::tables::legacy(out, case),
         Kind::Known => crate::tables::known(out, case),
+        Kind::Product => crate::small::product(out, case),
+        Kind::Name => crate::tables::name(out, case),
         Kind::Codes => crate::tables::codes(out),
         Kind::Xdr => crate::xdr_items::answer(out, case),
         Kind::Token => crate::small::token(out, case),

@@ -45,6 +45,8 @@ pub enum Kind {
     Legacy,
     Trailing,
     Known,
+    Product,
+    Name,
     Codes,
     Xdr,
 }
@@ -53,6 +55,7 @@ pub enum Kind {
 #[derive(Clone, Copy)]
 pub enum Form {
     Size,
+    Number,
     Days,
     Seconds,
     Code,
@@ -93,6 +96,8 @@ impl Kind {
             b"leg" => Kind::Legacy,
             b"trail" => Kind::Trailing,
             b"known" => Kind::Known,
+            b"product" => Kind::Product,
+            b"name" => Kind::Name,
             b"codes" => Kind::Codes,
             b"xdr" => Kind::Xdr,
             _ => return None,
@@ -143,7 +148,8 @@ impl Kind {
             Kind::Precip => &[Form::Bytes, Form::Size, Form::Float],
             Kind::Charge => &[Form::Size, Form::Ends, Form::Rates],
             Kind::Legacy => &[Form::Thresholds, Form::Float],
-            Kind::Known => &[Form::Code],
+            Kind::Known | Kind::Product => &[Form::Code],
+            Kind::Name => &[Form::Number, Form::Size],
             Kind::Codes => &[],
             Kind::Xdr => &[Form::Items, Form::Bytes],
         }

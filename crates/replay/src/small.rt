@@ -61,6 +61,65 @@ fn print_precip(out: &mut Vec<u8>, report: &Report) -> io::Result<()> {
     }
 }
 
+// What the numbers of a product's scheme, moment and unit stand for.
+fn scheme(n: u64) -> &'static str {
+    match n {
+        0 => "H",
+        1 => "F",
+        2 => "P",
+        3 => "L",
+        4 => "C",
+        _ => "?",
+    }
+}
+
+fn moment(n: u64) -> &'static str {
+    match n {
+        0 => "DBZH",
+        1 => "VRADH",
+        2 => "WRADH",
+        3 => "SRMV",
+        4 => "ZDR",
+        5 => "RHOHV",
+        6 => "KDP",
+        7 => "HCLASS",
+        8 => "ACCUM",
+        9 => "RATE",
+        _ => "?",
+    }
+}
+
+fn unit(n: u64) -> &'static str {
+    match n {
+        0 => "dBZ",
+        1 => "m/s",
+        2 => "dB",
+        3 => "ratio",
+        4 => "deg/km",
+        5 => "class",
+        6 => "mm",
+        7 => "mm/h",
+        _ => "?",
+    }
+}
+
+fn print_product(out: &mut Vec<u8>, report: &Report) -> io::Result<()> {
+    let ints = &report.ints;
+    if ints[0] == 0 {
+        return out.write_all(b"A unknown");
+    }
+    write!(out, "A scheme={}", scheme(ints[1]))?;
+    if matches!(ints[1], 2 | 3) {
+        write!(out, ":{}", Single(report.floats[0]))?;
+    }
+    write!(out, " moment={} unit={}", moment(ints[2]), unit(ints[3]))?;
+    match ints[4] {
+        0 => out.write_all(b" gate=-")?,
+        gate => write!(out, " gate={gate}")?,
+    }
+    write!(out, " elevation={}", ints[5])
+}
+
 pub fn token(out: &mut Vec<u8>, case: Case) -> io::Result<()> {
     let file = case.bytes(2)?;
     ask(
@@ -176,5 +235,14 @@ pub fn precip(out: &mut Vec<u8>, case: Case) -> io::Result<()> {
         out,
         |r| capi::scaling::l3_precip(&file, block, factor, &mut r.ints, &mut r.floats),
         print_precip,
+    )
+}
+
+pub fn product(out: &mut Vec<u8>, case: Case) -> io::Result<()> {
+    let code = crate::words::signed16(case.word(2));
+    ask(
+        out,
+        |r| capi::products::l3_product(code, &mut r.ints, &mut r.floats),
+        print_product,
     )
 }

@@ -1,6 +1,6 @@
-// Thresholds, levels and the known codes, in arrays as C lends them.
+// Thresholds, levels, the known codes and the refusals' names, in arrays as C lends them.
 use crate::case::Case;
-use crate::lent::{Pattern, Report, check};
+use crate::lent::{Pattern, ROOM, Report, check, filled};
 use crate::print::{Cell, Row};
 use std::io;
 use std::io::Write;
@@ -55,4 +55,26 @@ pub fn codes(out: &mut Vec<u8>) -> io::Result<()> {
         return write!(out, "R {number}");
     }
     write!(out, "A {table:?}")
+}
+
+// A refusal's name. The library writes 32 places: zeros stand behind it.
+pub fn name(out: &mut Vec<u8>, case: Case) -> io::Result<()> {
+    let places = case.size(3);
+    if ROOM < places {
+        return out.write_all(b"? too large");
+    }
+    let mut name = filled(case.alloc, places)?;
+    let number = capi::names::l3_refusal_name(crate::words::unsigned32(case.word(2)), &mut name);
+    // The library's number; 0 is acceptance.
+    if number != 0 {
+        write!(out, "R {number}")?;
+        return check(out, "name", &name, 0);
+    }
+    let n = crate::words::letters(&name, 0);
+    out.write_all(b"A ")?;
+    out.write_all(&name[..n])?;
+    if name.iter().take(32).skip(n).any(|b| *b != 0) {
+        out.write_all(b" ?")?;
+    }
+    check(out, "name", &name, 32)
 }

@@ -150,6 +150,13 @@ pub fn unsigned16(word: &[u8]) -> u16
     (number(word) % 65536) as u16
 }
 
+pub fn unsigned32(word: &[u8]) -> u32
+    ensures { result ≡ number_of word.now % 4294967296 }
+{
+    // In range by the proof: `try_from` would be a test that cannot fail.
+    (number(word) % 4294967296) as u32
+}
+
 // A signed number's 64-bit word, two's complement.
 fn signed(word: &[u8]) -> u64
     ensures { result ≡ signed_word word.now }

@@ -1,4 +1,5 @@
 //! One answer: what a reading gives, when two are equal, and its line.
+use crate::case::Scheme;
 use crate::text::{array, bits32, bits64, hex, list};
 use std::fmt::{Display, Formatter, Result};
 
@@ -13,6 +14,10 @@ pub struct Refusal {
 
 pub const ITEMS: [&str; 7] = ["int", "uint", "float", "string_body", "padding", "array_body", "packet_body"];
 pub const BUFFERS: [&str; 6] = ["azimuths", "codes", "physical", "marks", "totals", "output"];
+
+/// The moments of the products, after the Rust, and their units.
+pub const MOMENTS: [&str; 10] = ["DBZH", "VRADH", "WRADH", "SRMV", "ZDR", "RHOHV", "KDP", "HCLASS", "ACCUM", "RATE"];
+pub const UNITS: [&str; 8] = ["dBZ", "m/s", "dB", "ratio", "deg/km", "class", "mm", "mm/h"];
 
 /// The table's names, from 1.
 pub const NAMES: [&str; 46] = [
@@ -124,6 +129,16 @@ pub struct Date {
     pub day: u8,
 }
 
+/// What the products of a message code are. The gate length is in metres, where the code fixes it.
+#[derive(Debug, Clone, Copy)]
+pub struct Product {
+    pub scheme: Scheme,
+    pub moment: &'static str,
+    pub unit: &'static str,
+    pub gate: Option<u16>,
+    pub elevation: bool,
+}
+
 /// One XDR item. A string that is not ASCII is `Text(None)`: it is not compared.
 #[derive(Debug, Clone)]
 pub enum Item {
@@ -171,6 +186,10 @@ pub enum Answer {
     Levels([f32; 16]),
     Accepted,
     Codes(Vec<u16>),
+    /// None of a code that is not known.
+    Product(Option<Product>),
+    /// The name of a refusal.
+    Name(Vec<u8>),
     Xdr {
         items: Vec<Item>,
         refusal: Option<Refusal>,
@@ -303,6 +322,14 @@ impl Sweep {
     }
 }
 
+impl Product {
+    fn same(&self, other: &Product) -> bool {
+        self.scheme.index() == other.scheme.index()
+            && self.scheme.parameter().to_bits() == other.scheme.parameter().to_bits()
+            && (self.moment, self.unit, self.gate, self.elevation) == (other.moment, other.unit, other.gate, other.elevation)
+    }
+}
+
 impl Item {
     pub fn same(&self, other: &Item) -> bool {
         match (self, other) {
@@ -362,6 +389,9 @@ impl Answer {
             (Levels(a), Levels(b)) => same_all(a, b, same_f32),
             (Accepted, Accepted) => true,
             (Codes(a), Codes(b)) => a == b,
+            (Product(None), Product(None)) => true,
+            (Product(Some(a)), Product(Some(b))) => a.same(b),
+            (Name(a), Name(b)) => a == b,
             (Xdr { items: a, refusal: b, position: c }, Xdr { items: d, refusal: e, position: f }) => {
                 let refusals = match (b, e) {
                     (None, None) => true,
@@ -456,6 +486,15 @@ impl Display for Sweep {
     }
 }
 
+impl Display for Product {
+    fn fmt(&self, f: &mut Formatter) -> Result {
+        let Product { scheme, moment, unit, gate, elevation } = self;
+        let gate = gate.map_or("-".to_string(), |metres| metres.to_string());
+        let elevation = *elevation as u8;
+        write!(f, "scheme={} moment={moment} unit={unit} gate={gate} elevation={elevation}", scheme.text())
+    }
+}
+
 impl Display for Item {
     fn fmt(&self, f: &mut Formatter) -> Result {
         match self {
@@ -500,6 +539,9 @@ impl Display for Answer {
             }
             Answer::Accepted => write!(f, "A"),
             Answer::Codes(c) => write!(f, "A {c:?}"),
+            Answer::Product(None) => write!(f, "A unknown"),
+            Answer::Product(Some(product)) => write!(f, "A {product}"),
+            Answer::Name(name) => write!(f, "A {}", name.escape_ascii()),
             Answer::Xdr { items, refusal, position } => {
                 write!(f, "X")?;
                 for item in items {

@@ -132,6 +132,15 @@ pub enum Case {
     Known {
         code: i16,
     },
+    /// What the products of a message code are.
+    Product {
+        code: i16,
+    },
+    /// The name of a refusal, and how many bytes are lent for it.
+    Name {
+        number: u32,
+        places: usize,
+    },
     Codes,
     /// Each letter of `ops` is one item read: i u f s a l.
     Xdr {
@@ -204,7 +213,7 @@ impl Scheme {
         })
     }
 
-    fn text(self) -> String {
+    pub(crate) fn text(self) -> String {
         match self {
             Scheme::Halfword => "H".into(),
             Scheme::Float => "F".into(),
@@ -279,6 +288,8 @@ impl Case {
             Case::Leg { .. } => "leg",
             Case::Trail { .. } => "trail",
             Case::Known { .. } => "known",
+            Case::Product { .. } => "product",
+            Case::Name { .. } => "name",
             Case::Codes => "codes",
             Case::Xdr { .. } => "xdr",
             Case::Each { .. } => "each",
@@ -374,6 +385,8 @@ impl Case {
             }
             "trail" => Case::Trail { bytes: bytes(2)? },
             "known" => Case::Known { code: number(word(2)?)? },
+            "product" => Case::Product { code: number(word(2)?)? },
+            "name" => Case::Name { number: number(word(2)?)?, places: number(word(3)?)? },
             "codes" => Case::Codes,
             "xdr" => {
                 let ops = word(2)?.replace('-', "");
@@ -429,7 +442,8 @@ impl Case {
             Case::Prc { file, block, factor } => format!("{} {block} {:08x}", hex(file), factor.to_bits()),
             Case::Leg { thresholds, post_scale } => format!("{} {:08x}", hex(thresholds), post_scale.to_bits()),
             Case::Trail { bytes } => hex(bytes),
-            Case::Known { code } => code.to_string(),
+            Case::Known { code } | Case::Product { code } => code.to_string(),
+            Case::Name { number, places } => format!("{number} {places}"),
             Case::Codes => return format!("{kind} {name}"),
             Case::Each { payload } => hex(payload),
             Case::Charge { total, ends, rates } => format!("{total} {} {}", list(ends), list(rates)),

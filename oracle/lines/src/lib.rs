@@ -3,7 +3,7 @@ mod answer;
 mod case;
 mod text;
 
-pub use answer::{same_f32, same_f64, BUFFERS, ITEMS, NAMES};
-pub use answer::{Answer, Date, Each, Fields, Geometry, Item, Packet, Picture, Refusal, Scale, Sweep};
+pub use answer::{same_f32, same_f64, BUFFERS, ITEMS, MOMENTS, NAMES, UNITS};
+pub use answer::{Answer, Date, Each, Fields, Geometry, Item, Packet, Picture, Product, Refusal, Scale, Sweep};
 pub use case::{Case, FieldKind, Lent, Scheme, EACH};
 pub use text::{hex, unhex};

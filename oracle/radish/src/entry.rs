@@ -4,7 +4,7 @@ use super::error::Level3DecodeError as E;
 use super::symbology::{self, SymbologyResult};
 use super::{bytes, header, legacy16, pdb, products, xdr};
 use super::{class_int_physical, linear_declared_scale, precip_family_declared_scale, DeclaredLinearScale};
-use lines::{Answer, Case, Each, FieldKind, Fields, Geometry, Item, Lent, Packet, Picture, Refusal, Scale, Scheme, Sweep, EACH, ITEMS};
+use lines::{Answer, Case, Each, FieldKind, Fields, Geometry, Item, Lent, Packet, Picture, Product, Refusal, Scale, Scheme, Sweep, EACH, ITEMS};
 use ndarray::Array2;
 use std::cell::Cell;
 use std::panic::{catch_unwind, AssertUnwindSafe};
@@ -326,6 +326,24 @@ fn scaling((minimum, step, levels): (f32, f32, u16)) -> Answer {
     Answer::Scaling { minimum, step, levels }
 }
 
+/// What the Rust's table has of a code. It has no units.
+fn product(spec: &products::ProductSpec) -> Product {
+    use products::DecodeScheme::*;
+    let scheme = match spec.decode {
+        LinearHw => Scheme::Halfword,
+        FloatScale => Scheme::Float,
+        Precip => Scheme::Precip(super::PRECIP_FACTOR),
+        Rate => Scheme::Precip(super::RATE_FACTOR),
+        Legacy16 => Scheme::Legacy(spec.post_scale),
+        ClassInt => Scheme::Class,
+    };
+    let gate = spec.bin_size.map(|metres| {
+        assert_eq!(metres, metres as u16 as f32, "whole metres");
+        metres as u16
+    });
+    Product { scheme, moment: spec.moment, unit: "", gate, elevation: spec.has_elevation }
+}
+
 fn accepted(case: &Case) -> Result<Answer, Refusal> {
     Ok(match case {
         Case::Sweep { clock, scheme, lent, file, body } => {
@@ -337,6 +355,7 @@ fn accepted(case: &Case) -> Result<Answer, Refusal> {
         | Case::Plan { .. }
         | Case::Export { .. }
         | Case::Date { .. }
+        | Case::Name { .. }
         | Case::Charge { .. } => Answer::Absent,
         Case::Sym { body } => Answer::Picture(Box::new(picture(packet(body), read_symbology(body)?.0))),
         Case::Token { file } => Answer::Token(token(header::find_awips_token(file).map_err(refusal)?)),
@@ -358,6 +377,7 @@ fn accepted(case: &Case) -> Result<Answer, Refusal> {
             Answer::Accepted
         }
         Case::Known { code } => Answer::Number(products::is_known_message_code(*code) as i128),
+        Case::Product { code } => Answer::Product(products::spec_for(*code).map(product)),
         Case::Codes => Answer::Codes(products::known_message_codes()),
         Case::Xdr { ops, payload } => xdr_items(ops, payload),
         Case::Each { payload } => each(payload),

@@ -1,4 +1,4 @@
-//! The cases that every run has: short inputs and day numbers exhaustively, every length of small files and bodies, every byte of
+//! The cases that every run has: codes, short inputs and day numbers exhaustively, names, every length of small files and bodies, every byte of
 //! them, rows of every length up to 200 cells, radials of every mix of lengths, gaps in all of these, clear scans, exports, readings
 //! by the archive profile, the places outside the Rust's domain, the caps, and the two grid sizes.
 use super::plans::{with_flags, PRECIP};
@@ -42,6 +42,7 @@ impl Compare {
             self.both(&case);
         }
         self.codes();
+        self.names();
         self.texts();
         self.times();
         self.dates();
@@ -83,7 +84,19 @@ impl Compare {
         self.both(&Case::Codes);
         for code in i16::MIN..=i16::MAX {
             self.both(&Case::Known { code });
+            self.both(&Case::Product { code });
         }
+    }
+
+    /// The names of the refusals, in fewer places than they have and in more; and the version.
+    fn names(&mut self) {
+        for number in (0..=120).chain([1 << 31, u32::MAX]) {
+            for places in cases::PLACES {
+                self.both(&Case::Name { number, places });
+            }
+        }
+        let version = self.port.version();
+        self.promise(&format!("l3_version is {version}"), version == model::VERSION);
     }
 
     fn texts(&mut self) {

@@ -6,7 +6,8 @@ use crate::make::plans::{self, Record};
 use crate::make::{cases, Rng};
 use crate::model::{self, plans::MOST, Layout};
 use crate::sample;
-use lines::{Answer, Case, Lent, Packet, Refusal, Scheme, Sweep};
+use crate::trap;
+use lines::{Answer, Case, Lent, Packet, Picture, Refusal, Scheme, Sweep};
 use std::ops::Range;
 use Record::{Field, Raw, Strip};
 
@@ -31,7 +32,35 @@ impl Compare {
         if !holds {
             self.differs("not what the ordinary reading lets it be", case, &[("ordinary", &ordinary), ("port", &port)]);
         }
+        if let Answer::Sweep(alone) = &ordinary {
+            self.totals_alone(case, &port, &alone.picture);
+        }
         (want, port)
+    }
+
+    /// The totals alone, of the ordinary reading's codes: what the reading with the plan gives or refuses of the plan, and 36 with one
+    /// code fewer, or for a picture of 2^64 cells.
+    fn totals_alone(&mut self, case: &Case, port: &Answer, picture: &Picture) {
+        let Case::Plan { file, scheme: Scheme::Precip(factor), plan, totals: lent, .. } = case else { return };
+        let block = trap::during(case, || self.port.block(file));
+        let (of_file, codes) = ((&file[..], block, *factor), &picture.codes[..]);
+        let short = Answer::Refused(Refusal::new(36, &[1]));
+        let fewer = codes.len().checked_sub(1).map(|n| ((&codes[..n], picture.radials, picture.bins), &short));
+        let asked = [((codes, picture.radials, picture.bins), port), ((codes, 1 << 32, 1 << 32), &short)];
+        for (picture, want) in asked.into_iter().chain(fewer) {
+            self.counts.totals_alone += 1;
+            let given = trap::during(case, || self.port.plan_totals(of_file, picture, plan, *lent));
+            let fault = self.port.take_fault();
+            let same = match (&given, want) {
+                (Ok(totals), Answer::Totals(_, wanted)) => totals == wanted,
+                (Err(refusal), Answer::Refused(wanted)) => refusal.same(wanted),
+                _ => false,
+            };
+            if !same || fault.is_some() {
+                let why = format!("the totals alone are {given:?} {}", fault.unwrap_or_default());
+                self.differs(&why, case, &[("wanted", want)]);
+            }
+        }
     }
 
     /// An accepted plan; with a strip cut in two, with a strip moved, and with another code in one cell.

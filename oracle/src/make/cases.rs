@@ -642,6 +642,30 @@ pub fn date(rng: &mut Rng) -> Case {
     Case::Date { days }
 }
 
+/// A message code: a known one, one around the last, or any.
+pub fn product(rng: &mut Rng) -> Case {
+    let code = match rng.below(4) {
+        0 => rng.u16() as i16,
+        1 => rng.between(174, 181) as i16,
+        _ => rng.pick(&CODES) as i16,
+    };
+    Case::Product { code }
+}
+
+/// Lengths around that of a name's buffer.
+pub const PLACES: [usize; 5] = [0, 31, 32, 33, 40];
+
+/// The name of a refusal, of 0, of a number above them all.
+pub fn name(rng: &mut Rng) -> Case {
+    let number = match rng.below(8) {
+        0 => rng.u32(),
+        1 => rng.below(121) as u32,
+        2 => rng.pick(&[0, 46, 47, 100, 101]),
+        _ => rng.between(1, 46) as u32,
+    };
+    Case::Name { number, places: rng.pick(&PLACES) }
+}
+
 pub const KINDS: [FieldKind; 4] = [FieldKind::I16, FieldKind::U16, FieldKind::I32, FieldKind::Pair];
 
 /// A field inside the Rust's domain, near the file's end as often as not.

@@ -207,6 +207,33 @@ pub(super) fn read(case: &Case) -> Answer {
     Answer::Totals(sweep, made)
 }
 
+/// The totals of a plan over a picture's codes.
+pub(super) fn alone(
+    codes: &[u16],
+    (radials, bins): (usize, usize),
+    bounds: (u16, Option<u16>),
+    plan: &[u8],
+    lent: usize,
+) -> Result<Vec<u64>, Refusal> {
+    let cells = match radials.checked_mul(bins) {
+        Some(cells) => cells,
+        None if slips(TotalsOfCellsIn64Bits) => radials.wrapping_mul(bins),
+        None => usize::MAX,
+    };
+    if codes.len() + usize::from(slips(TotalsOfFewerCodes)) < cells {
+        return Err(Refusal::new(36, &[1]));
+    }
+    let records = checked(plan, radials, bins)?;
+    // The range scale is not looked at.
+    let geometry = lines::Geometry::RangeScale(0);
+    let picture = Picture { packet: lines::Packet::P16, radials, bins, geometry, azimuths: vec![], codes: codes.to_vec() };
+    let made = totals(&records, &picture, bounds);
+    if lent < made.len() {
+        return Err(Refusal::new(36, &[4]));
+    }
+    Ok(made)
+}
+
 /// The same with enough lent.
 fn roomy(mut case: Case) -> Case {
     if let Case::Sweep { lent, .. } = &mut case {

@@ -1,0 +1,4 @@
+// What the products of each known message code are.
+#![tactic(auto)]
+
+pub mod product;
