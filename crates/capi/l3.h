@@ -6,11 +6,11 @@
  * Calls at the same time are safe if no call writes to an array that another one has; what is only read may be shared.
  *
  * What is returned:
- *   0        accepted (l3_known: 1 for a known code, else 0)
+ *   0        accepted (l3_known: 1 for a known code, else 0; l3_version: the version)
  *   1 to 46  refused; the number is the one of the README's table
  *   100      L3_SHORT_REPORT: ints has fewer than L3_INTS places (24), or floats fewer than L3_FLOATS (8)
- *   101      L3_BAD_ARGUMENT: an argument that the function does not take: an unknown scheme, kind or item, an array of a length that is
- *            not the one asked for
+ *   101      L3_BAD_ARGUMENT: an argument that the function does not take: an unknown scheme, kind or item, a number that is no
+ *            refusal's, an array of a length that is not the one asked for, or is too short for a name
  * After 100 and 101 nothing is written. 100 comes first.
  *
  * The report: the first 24 places of ints and the first 8 of floats are written, and later places are left as they are. After a
@@ -102,7 +102,7 @@ enum { L3_AZIMUTHS = 0, L3_CODES = 1, L3_PHYSICAL = 2, L3_MARKS = 3, L3_TOTALS =
 /* How many message codes are known. */
 enum { L3_KNOWN_CODES = 26 };
 
-/* Places of ints and floats of l3_product; the moments and units that it names, after the Rust. */
+/* Places of ints and floats of l3_product; the moments that it names, after the Rust, and their units. */
 enum { L3_KNOWN = 0, L3_SCHEME = 1, L3_MOMENT = 2, L3_UNIT = 3, L3_GATE_LENGTH = 4, L3_HAS_ELEVATION = 5 };
 enum { L3_PARAMETER = 0 };
 enum {
@@ -178,12 +178,12 @@ uint32_t l3_totals(const uint8_t *file, size_t file_len, uint64_t clock, uint32_
                    double *azimuths, size_t azimuths_len, uint16_t *codes, size_t codes_len, float *physical, size_t physical_len,
                    uint64_t *totals, size_t totals_len, int64_t *ints, size_t ints_len, double *floats, size_t floats_len);
 
-/* The totals of a field plan over the codes of any picture of radials * bins cells, row after row: one that l3_merge gave, say. The scale is
- * that of the description block at place block, with factor, as in l3_precip. Accepted, the totals stand in the front of totals as
- * l3_totals leaves them, and ints[0] is how many; later places are left as they are. A cell of a gap has code 0: whether a strip lies in
- * one only the marks tell. Refused are, in this order: what l3_precip refuses; with 36 codes of fewer places than cells; what l3_totals
- * refuses with 37, 38, 39 and then 36. After a refusal totals is as it was. */
-uint32_t l3_plan_totals(const uint8_t *file, size_t file_len, size_t block, float factor, const uint16_t *codes, size_t codes_len,
+/* The totals of a field plan over the codes of any picture of radials * bins cells, row after row: one that l3_merge gave, say. Floor and
+ * ceiling are those of the description block at place block, as in l3_precip. Accepted, the totals stand in the front of totals as
+ * l3_totals leaves them, and ints[0] is how many; later places of totals are left as they are. A cell of a gap has code 0: whether a
+ * strip lies in one only the marks tell. Refused are, in this order: what l3_precip refuses; with 36 codes of fewer places than cells;
+ * what l3_totals refuses with 37, 38, 39 and then 36. After a refusal totals is as it was. */
+uint32_t l3_plan_totals(const uint8_t *file, size_t file_len, size_t block, const uint16_t *codes, size_t codes_len,
                         size_t radials, size_t bins, const uint8_t *plan, size_t plan_len, uint64_t *totals, size_t totals_len,
                         int64_t *ints, size_t ints_len, double *floats, size_t floats_len);
 
@@ -259,12 +259,14 @@ uint32_t l3_trailing(const uint8_t *bytes, size_t bytes_len, int64_t *ints, size
 /* 1 if the message code is known, else 0. */
 uint32_t l3_known(int16_t code);
 
-/* What the products of a message code are. ints[L3_KNOWN] is 1 for a known code, else 0, and then all other places too. floats[L3_PARAMETER]
- * is the parameter that goes with the scheme. The gate length is in metres, 0 where the code does not fix it: then the packet has it. */
+/* What the products of a message code are. ints[L3_KNOWN] is 1 for a known code, else 0, and then all other places too.
+ * floats[L3_PARAMETER] is the parameter that goes with the scheme, 0 for those that have none. The gate length is in metres, 0 where the
+ * code does not fix it: then the packet has it. */
 uint32_t l3_product(int16_t code, int64_t *ints, size_t ints_len, double *floats, size_t floats_len);
 
 /* The name of a refusal as the README's table has it, in ASCII with zero bytes behind it, in the first L3_NAME places of name; later places
- * are left as they are. name_len must be L3_NAME or more. Returns 0, or 101 for a number that is no refusal's. */
+ * are left as they are. Returns 0, or 101 for a number that is no refusal's and for a name of fewer places than L3_NAME, which is then as
+ * it was. */
 uint32_t l3_refusal_name(uint32_t number, uint8_t *name, size_t name_len);
 
 /* The library's version: major * 10000 + minor * 100 + patch. */

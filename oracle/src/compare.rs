@@ -43,8 +43,8 @@ pub struct Counts {
     pub plans: [[Split; 5]; 3],
     /// Accepted plans with a strip cut in two, with a strip moved, with another code in a cell.
     pub plan_laws: [u64; 3],
-    /// Calls of `l3_plan_totals` held to the reading with the plan, or to 36.
-    pub totals_alone: u64,
+    /// Calls of `l3_plan_totals`; of them those held to what is refused of the scale fields, and those of merged pictures.
+    pub totals_alone: [u64; 3],
     /// Charges beside that of a larger total, and beside those with one rate altered.
     pub charge_laws: [u64; 2],
     /// Second bodies of demand 3.
@@ -197,7 +197,14 @@ impl Compare {
                     self.hold_values(case, &short, (file, block, scheme), codes, fewer);
                 }
             }
-            (Answer::Refused(_), Some(block)) => self.hold_values(case, answer, (file, block, scheme), &[0, 1, 2], 2),
+            (Answer::Refused(refusal), Some(block)) => {
+                self.hold_values(case, answer, (file, block, scheme), &[0, 1, 2], 2);
+                if let Scheme::Precip(_) = scheme {
+                    // no plan; of 2 × 3 cells every code, and one fewer
+                    self.totals_unscaled(case, refusal, &[9; 6], (&[], 1));
+                    self.totals_unscaled(case, refusal, &[9; 5], (&[], 1));
+                }
+            }
             _ => {}
         }
     }
@@ -534,7 +541,8 @@ impl Counts {
         print_table("field plans by packet and scheme, accepted / refused:", &self.plans);
         let [cut, moved, code] = self.plan_laws;
         println!("  held to another: a strip cut in two {cut}, a strip moved {moved}, another code in a cell {code}");
-        println!("  the totals alone: {}", self.totals_alone);
+        let [alone, unscaled, merged] = self.totals_alone;
+        println!("  the totals alone: {alone}, under refused scale fields {unscaled}, of merged pictures {merged}");
         let [larger, rates] = self.charge_laws;
         println!("charges held to another: a larger total {larger}, each rate altered {rates}");
         print_table("damaged bodies (demand 3), accepted / refused:", &self.damaged);

@@ -111,7 +111,13 @@ slips! {
     PlanWritesNoPicture,
     TotalsOfFewerCodes,
     TotalsOfCellsIn64Bits,
+    TotalsOfMoreCodesRefused,
+    TotalsCodesBeforeScale,
+    TotalsCodesAfterPlan,
     TotalsAloneOneMore,
+    TotalsAloneInFields,
+    TotalsAloneWithStep,
+    TotalsAloneRefusalWrites,
     LowCeilingHasALevel,
     LastCodeMissed,
     LevelCountIn16Bits,
@@ -576,7 +582,6 @@ unsafe extern "C" fn plan_totals(
     file: *const u8,
     file_len: usize,
     block: usize,
-    factor: f32,
     codes: *const u16,
     codes_len: usize,
     radials: usize,
@@ -592,14 +597,31 @@ unsafe extern "C" fn plan_totals(
 ) -> u32 {
     let Some(mut report) = report(ints, ints_len, floats, floats_len) else { return SHORT_REPORT };
     let (file, totals) = (bytes(file, file_len), from_raw_parts_mut(totals, totals_len));
-    if let Answer::Refused(r) = answer(&Case::Prc { file: file.clone(), block, factor }) {
-        return report.refuse(&r);
-    }
-    let bounds = model::valid_codes(&file, block);
-    let codes = from_raw_parts(codes, codes_len);
-    match plans::alone(codes, (radials, bins), bounds, from_raw_parts(plan, plan_len), totals_len) {
-        Err(r) => report.refuse(&r),
+    let (codes, plan) = (from_raw_parts(codes, codes_len), from_raw_parts(plan, plan_len));
+    // the factor makes values alone, of which there are none
+    let scale = answer(&Case::Prc { file: file.clone(), block, factor: 1.0 });
+    let short = plans::codes_for(codes, radials, bins).err().filter(|_| slips(TotalsCodesBeforeScale));
+    let made = match (short, &scale) {
+        (Some(r), _) => Err(r),
+        (None, Answer::Refused(r)) => Err(*r),
+        _ => plans::alone(codes, (radials, bins), model::valid_codes(&file, block), plan, totals_len),
+    };
+    match made {
+        Err(r) => {
+            if let (true, Some(first)) = (slips(TotalsAloneRefusalWrites), totals.first_mut()) {
+                *first = 0;
+            }
+            report.refuse(&r)
+        }
         Ok(made) => {
+            report.ints[..INTS].fill(0);
+            report.floats[..FLOATS].fill(0.0);
+            if slips(TotalsAloneInFields) {
+                report.ints[14] = made.len() as i64;
+            }
+            if let (true, Answer::Precip { step, .. }) = (slips(TotalsAloneWithStep), scale) {
+                report.floats[7] = step.into();
+            }
             totals[..made.len()].copy_from_slice(&made);
             if let (true, Some(next)) = (slips(TotalsAloneOneMore), totals.get_mut(made.len())) {
                 *next = 0;

@@ -15,13 +15,15 @@
 //! | l3_symbology, l3_sweep, l3_strict, l3_gaps, l3_merge, l3_totals | 6 packet (16, 44831 for AF1F, 28), 7 radials, 8 bins, 9 range scale or 0 | 4, 5 gate width, first gate or 0 |
 //! | l3_sweep, l3_strict, l3_gaps, l3_merge, l3_totals | 10 whether a scale is declared, 11 level count, 12 floor | 6, 7 minimum, step |
 //! | l3_totals | 14 the number of fields | |
+//! | l3_plan_totals | 0 the number of totals; all else 0 | all 0 |
 //! | l3_export16 | 0 the length of what was written | |
 //! | l3_linear, l3_float | 11 level count | 6, 7 minimum, step |
 //! | l3_precip | 12 floor, 13 ceiling or -1 | 6, 7 minimum, step |
 //! | l3_xdr, l3_items | 0 value, or 0 start and 1 length; 15 the position after the read, also on a refusal (item 7: 0 the bytes left, no position) | 0 value |
 //! | l3_read | 0 whether the number is there, 1 the number | |
 //! | l3_charge | 0 charge, 1 remainder | |
-//! | l3_product | 0 whether the code is known, 1 scheme, 2 moment, 3 unit, 4 gate length or 0, 5 whether there is an elevation; all else 0 | 0 the scheme's parameter; all else 0 |
+//! | l3_product | 0 whether the code is known, 1 scheme, 2 moment, 3 unit, 4 gate length or 0 | 0 the scheme's parameter |
+//! | l3_product | 5 whether there is an elevation; all else 0 | all else 0 |
 use crate::fence::Fence;
 use lines::{
     Answer, Case, Date, Each, FieldKind, Fields, Geometry, Item, Lent, Packet, Picture, Product, Refusal, Scale, Scheme,
@@ -80,7 +82,7 @@ entries! {
         totals: *mut u64, totals_len: usize, ints: *mut i64, ints_len: usize, floats: *mut f64, floats_len: usize,
     );
     plan_totals: l3_plan_totals(
-        file: *const u8, file_len: usize, block: usize, factor: f32, codes: *const u16, codes_len: usize, radials: usize, bins: usize,
+        file: *const u8, file_len: usize, block: usize, codes: *const u16, codes_len: usize, radials: usize, bins: usize,
         plan: *const u8, plan_len: usize, totals: *mut u64, totals_len: usize,
         ints: *mut i64, ints_len: usize, floats: *mut f64, floats_len: usize,
     );
@@ -427,18 +429,23 @@ impl Port {
     /// The totals of a plan over the codes of a picture of so many radials and bins, for a buffer of `lent` places.
     pub fn plan_totals(
         &mut self,
-        (file, block, factor): (&[u8], usize, f32),
+        (file, block): (&[u8], usize),
         (codes, radials, bins): (&[u16], usize, usize),
         plan: &[u8],
         lent: usize,
     ) -> Result<Vec<u64>, Refusal> {
         self.lend(Lent { azimuths: 0, codes: 0, physical: 0 });
         self.totals.lend(lent.min(MOST_TOTALS), pattern64);
-        let refused = self.call_plan_totals((file, block, factor), (codes, radials, bins), plan, (INTS, FLOATS));
+        let refused = self.call_plan_totals((file, block), (codes, radials, bins), plan, (INTS, FLOATS));
         self.check_report();
         if refused != 0 {
             self.check_kept([0; 6]);
             return Err(self.refusal(refused));
+        }
+        let others: Vec<usize> = (1..INTS).collect();
+        self.zero_ints(&others);
+        if self.floats[..FLOATS].iter().any(|x| x.to_bits() != 0) {
+            self.found(format!("floats are {:?}", &self.floats[..FLOATS]));
         }
         let written: usize = self.whole(0);
         if written > self.totals.lent {
@@ -522,7 +529,7 @@ impl Port {
         self.output.lend(30, pattern8);
         let export = self.call_export(&CLEAR, (ints, floats));
         let physical = self.call_physical(&[], 0, (4, 0.0), &[1, 2], (ints, floats));
-        let plan_totals = self.call_plan_totals((&[], 0, 1.0), (&[], 0, 0), &[], (ints, floats));
+        let plan_totals = self.call_plan_totals((&[], 0), (&[], 0, 0), &[], (ints, floats));
         let (i, f) = (self.ints.as_mut_ptr(), self.floats.as_mut_ptr());
         let bytes = self.file.place(b"N0BLOT");
         let mut data = [0u8; 32];
@@ -986,7 +993,7 @@ impl Port {
 
     fn call_plan_totals(
         &mut self,
-        (file, block, factor): (&[u8], usize, f32),
+        (file, block): (&[u8], usize),
         (codes, radials, bins): (&[u16], usize, usize),
         plan: &[u8],
         report: (usize, usize),
@@ -998,7 +1005,6 @@ impl Port {
                 file_at,
                 file.len(),
                 block,
-                factor,
                 codes_at as *const u16,
                 codes.len(),
                 radials,

@@ -1,6 +1,7 @@
 -- What the entries that take a kind, an item, a scheme or an exact length have to say.
 use Rattle.std.specs.Prelude.{◌≡◌, ℕ, ◌-◌, cond, ◌&&◌, List, [], ◌∷◌, length, ◌==◌, nat_lt, Float}
 use Rattle.std.specs.Prelude as Std
+use Rattle.wire.specs.Float.{f32}
 use Rattle.wire.specs.Reading.{walk}
 use Rattle.wire.specs.Result.{Result, then}
 use Rattle.wire.specs.Products.{codes}
@@ -119,10 +120,11 @@ pub record PictureLeaves (d : ℕ → ℕ → Result Picture) (number : ℕ) (az
   pub azimuths : az' ≡ lent_by (room_first ints floats (said (d (length az) (length cs)))) (λ p. p.azimuths) az
   pub codes : cs' ≡ lent_by (room_first ints floats (said (d (length az) (length cs)))) (λ p. p.codes) cs
 
--- the totals of a plan over a picture's codes, by the precipitation scale of a description block, for a totals buffer of nt places
-abbrev pub plan_totals : List ℕ → ℕ → Float → List ℕ → ℕ → ℕ → List ℕ → ℕ → Result (List ℕ)
-plan_totals file block factor codes radials bins plan nt =
-    then (precip_family_scale file block factor) λ scale.
+-- the totals of a plan over a picture's codes, by the precipitation scale of a description block, of which they take floor and ceiling, not
+-- the factor; for a totals buffer of nt places
+abbrev pub plan_totals : List ℕ → ℕ → List ℕ → ℕ → ℕ → List ℕ → ℕ → Result (List ℕ)
+plan_totals file block codes radials bins plan nt =
+    then (precip_family_scale file block (f32 1 1)) λ scale.
     picture_totals codes radials bins scale plan nt
 
 -- The same of l3_export16 and l3_plan_totals, which write what d gives to a buffer that held o.

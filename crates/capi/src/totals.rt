@@ -7,28 +7,27 @@ ghost use Rattle.capi.specs.Entries.{plan_totals, ExportLeaves};
 use crate::report::{is_short, write_answer};
 use wire::error::Level3DecodeError;
 
-// By the precipitation scale of a description block. The parameters are those of the C entry, one by one.
+// By the precipitation scale of a description block: no total depends on its factor. The parameters are those of the C entry, one by one.
+#[tactic(auto, using(scale::proofs::Constants::one))]
 fn picture_totals(
     file: &[u8],
     block: usize,
-    factor: f32,
     codes: &[u16],
     radials: usize,
     bins: usize,
     plan: &[u8],
     totals: &mut [u64],
 ) -> Result<usize, Level3DecodeError>
-    ensures result_value { answer result ≡ fields_in (plan_totals file.now block factor codes.now radials bins plan.now (length totals.old)) }
-    ensures totals_after { totals.new ≡ lent (plan_totals file.now block factor codes.now radials bins plan.now (length totals.old)) (λ t. t) totals.old }
+    ensures result_value { answer result ≡ fields_in (plan_totals file.now block codes.now radials bins plan.now (length totals.old)) }
+    ensures totals_after { totals.new ≡ lent (plan_totals file.now block codes.now radials bins plan.now (length totals.old)) (λ t. t) totals.old }
 {
-    let scale = scale::pdb::precip_family_scale(file, block, factor)?;
+    let scale = scale::pdb::precip_family_scale(file, block, 1.0)?;
     fields::picture::picture_totals(codes, radials, bins, scale, plan, totals)
 }
 
 pub fn l3_plan_totals(
     file: &[u8],
     block: usize,
-    factor: f32,
     codes: &[u16],
     radials: usize,
     bins: usize,
@@ -37,12 +36,12 @@ pub fn l3_plan_totals(
     ints: &mut [u64],
     floats: &mut [f64],
 ) -> u32
-    ensures { ExportLeaves (plan_totals file.now block factor codes.now radials bins plan.now) result totals.old totals.new
+    ensures { ExportLeaves (plan_totals file.now block codes.now radials bins plan.now) result totals.old totals.new
         ints.old ints.new floats.old floats.new }
 {
     if is_short(ints.len(), floats.len()) {
         return 100;
     }
-    let answer = picture_totals(file, block, factor, codes, radials, bins, plan, totals);
+    let answer = picture_totals(file, block, codes, radials, bins, plan, totals);
     write_answer(answer, ints, floats)
 }

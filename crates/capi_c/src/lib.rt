@@ -383,7 +383,6 @@ pub extern "C" fn l3_totals(
 pub extern "C" fn l3_plan_totals(
     file: &[u8],
     block: usize,
-    factor: f32,
     codes: &[u16],
     radials: usize,
     bins: usize,
@@ -392,11 +391,11 @@ pub extern "C" fn l3_plan_totals(
     ints: &mut [u64],
     floats: &mut [f64],
 ) -> u32
-    ensures { ExportLeaves (plan_totals file.now block factor codes.now radials bins plan.now) result totals.old totals.new
+    ensures { ExportLeaves (plan_totals file.now block codes.now radials bins plan.now) result totals.old totals.new
         ints.old ints.new floats.old floats.new }
 {
     capi::totals::l3_plan_totals(
-        file, block, factor, codes, radials, bins, plan, totals, ints, floats,
+        file, block, codes, radials, bins, plan, totals, ints, floats,
     )
 }
 

@@ -1,4 +1,5 @@
--- What the products of each known message code are (products.rs of the Rust, beyond document 01).
+-- What the products of each known message code are: the Rust's products.rs, with the factors of its decode/mod.rs and a unit for each
+-- moment, beyond document 01.
 use Rattle.std.specs.Prelude.{ℕ, List, [], ◌∷◌, true, false, cond, ◌==◌, ℤ, pos, negsuc, Float, Option, Some, None}
 use Rattle.wire.specs.Float.{f32, ◌⊗◌}
 use Rattle.scale.specs.declared.physical.Scheme.{Scheme}

@@ -1,14 +1,15 @@
 -- The totals of a plan over any picture: a law for each answer of the code, and that those of M-104's reading are these. Assumes nothing.
-use Rattle.std.proofs.Common.{◌≡◌, ℕ, ◌*◌, ◌<◌, ◌≤◌, true, false, ltb, List, [], ◌∷◌, ◌++◌, length, drop, refl, sym, ap, ◌∙◌, arith, lt-ltb, le-ltb}
+use Rattle.std.proofs.Common.{◌≡◌, ℕ, ◌*◌, ◌<◌, ◌≤◌, Bool, true, false, ltb, List, [], ◌∷◌, ◌++◌, length, drop, refl, sym, ap, ◌∙◌, arith, lt-ltb, le-ltb}
 use Rattle.wire.specs.Refusal.{Refusal, kind, buffer}
-use Rattle.wire.specs.Result.{Result, accepted, refused, lent}
+use Rattle.wire.specs.Result.{Result, accepted, refused, refuse, then, lent}
 use Rattle.wire.specs.declared.error.Buffer.TheVariants as Buffer
 use Rattle.scale.specs.declared.scaling.PrecipScale.{PrecipScale}
 use Rattle.sweep.proofs.Parts.{sizes}
 use Rattle.fields.specs.Plan.{entries_of, plan_of}
 use Rattle.fields.specs.Totals.{grid, totals, items}
+use Rattle.fields.specs.Fields.{Totalled, grid_of, planned, totals_of}
 use Rattle.fields.specs.Picture.{picture_totals, fields_in, OfPicture}
-use Rattle.fields.proofs.Joined.{made}
+use Rattle.sweep.specs.Sweep.{Accepted}
 use Rattle.fields.proofs.Writing.{passed, length_totals}
 
 module _ (codes : List ℕ) (radials bins : ℕ) (scale : PrecipScale) (plan old : List ℕ) where
@@ -47,11 +48,33 @@ module _ (codes : List ℕ) (radials bins : ℕ) (scale : PrecipScale) (plan old
           let q : T ≡ accepted ts = unfold picture_totals in rw (sym s ∙ e, ← i) (simp (le-ltb _ _ l)) in
           (ap accepted (sym many) ∙ ap fields_in (sym q), rw (h, sym many) (ap (λ r. lent r (λ t. t) old) (sym q)))
 
--- M-104's totals are those of its picture
+-- ---- M-104's totals are those of its picture
+
+module _ (plan : List ℕ) (nt : ℕ) (scale : PrecipScale) (a : Accepted) (long : a.sweep.figures.n_radials * a.sweep.figures.n_bins ≤ length a.codes) where
+  abbrev grid_totals : List ℕ
+  grid_totals = totals (grid_of scale a) (items (entries_of plan))
+
+  abbrev given : List ℕ → Result Totalled
+  given t = accepted (record { sweep = a; scale = scale; fields = length t; totals = t })
+
+  room : (b : Bool) (n : ℕ) → length grid_totals ≡ n
+      → refuse b (kind 36 (buffer Buffer.Totals ∷ [])) (accepted (record { sweep = a; scale = scale; fields = n; totals = grid_totals }))
+      ≡ then (refuse b (kind 36 (buffer Buffer.Totals ∷ [])) (accepted grid_totals)) given
+  room true n e = refl
+  room false n e = rw e refl
+
+  planned_is : planned plan nt scale a ≡ then (picture_totals a.codes a.sweep.figures.n_radials a.sweep.figures.n_bins scale plan nt) given
+  unfolding planned picture_totals
+  planned_is = rw (le-ltb _ _ long) (by (plan_of plan a.sweep.figures.n_radials a.sweep.figures.n_bins) refl)
+    where
+      by : (z : Result ℕ) → plan_of plan a.sweep.figures.n_radials a.sweep.figures.n_bins ≡ z
+          → then z (λ n. refuse (ltb nt n) (kind 36 (buffer Buffer.Totals ∷ [])) (accepted (record { sweep = a; scale = scale; fields = n; totals = grid_totals })))
+          ≡ then (then z λ n. refuse (ltb nt n) (kind 36 (buffer Buffer.Totals ∷ [])) (accepted grid_totals)) given
+      by (accepted n) e = room (ltb nt n) n (length_totals _ (entries_of plan) ∙ (passed plan _ _ e).fields)
+      by (refused x) e = refl
+
 pub of_picture : OfPicture
-unfolding picture_totals
-of_picture scheme file clock body plan na nc np nt t e =
-    let m = made scheme file clock body plan na nc np nt t e in
-    let z = sizes scheme file clock body na nc np t.sweep m.sweeps in
-    let long : t.sweep.sweep.figures.n_radials * t.sweep.sweep.figures.n_bins ≤ length t.sweep.codes = omega (arith, z.codes) in
-    rw (le-ltb _ _ long, m.plans, le-ltb _ _ m.room) (ap accepted (sym m.totals_are))
+unfolding totals_of
+of_picture scheme file clock body plan na nc np nt scale a er ea =
+    let z = sizes scheme file clock body na nc np a ea in
+    rw (er, ea) (planned_is plan nt scale a (omega (arith, z.codes)))

@@ -1,5 +1,4 @@
--- The totals of a plan over the codes of any picture, by M-104's definitions. What M-104's reading gives is this of its picture
--- (`OfPicture`).
+-- The totals of a plan over the codes of any picture, by M-104's definitions; M-104's reading gives those of its picture (`OfPicture`).
 use Rattle.std.specs.Prelude.{ℕ, ◌*◌, List, [], ◌∷◌, ◌≡◌, ltb, length}
 use Rattle.wire.specs.Refusal.{kind, buffer}
 use Rattle.wire.specs.Result.{Result, accepted, refuse, then}
@@ -8,7 +7,8 @@ use Rattle.scale.specs.declared.scaling.PrecipScale.{PrecipScale}
 use Rattle.scale.specs.declared.physical.Scheme.{Scheme}
 use Rattle.fields.specs.Plan.{entries_of, plan_of}
 use Rattle.fields.specs.Totals.{grid, totals, items}
-use Rattle.fields.specs.Fields.{Totalled, totals_of}
+use Rattle.sweep.specs.Sweep.{Accepted, sweep_of}
+use Rattle.fields.specs.Fields.{rain_of, totals_of}
 
 -- the codes of a picture of so many radials and bins, its scale, a plan, a totals buffer of nt places: 36 of the codes, where there are
 -- fewer than cells; 37, 38, 39; 36 of the totals
@@ -23,8 +23,12 @@ picture_totals codes radials bins scale plan nt =
 abbrev pub fields_in : Result (List ℕ) → Result ℕ
 fields_in r = then r λ t. accepted (length t)
 
--- the totals that M-104's reading gives are those of its picture, its scale and the plan
+-- M-104's reading, once head and body are read with the precipitation scale and the sweep is accepted, gives the totals of its picture or
+-- refuses the plan as they do: 37, 38, 39, 36 of the totals
 abbrev pub OfPicture : Type 0
 OfPicture =
-    (scheme : Scheme) (file : List ℕ) (clock : ℕ) (body plan : List ℕ) (na nc np nt : ℕ) (t : Totalled) → totals_of scheme file clock body plan na nc np nt ≡ accepted t
-    → picture_totals t.sweep.codes t.sweep.sweep.figures.n_radials t.sweep.sweep.figures.n_bins t.scale plan nt ≡ accepted t.totals
+    (scheme : Scheme) (file : List ℕ) (clock : ℕ) (body plan : List ℕ) (na nc np nt : ℕ) (scale : PrecipScale) (a : Accepted)
+    → rain_of scheme file clock body ≡ accepted scale → sweep_of scheme file clock body na nc np ≡ accepted a
+    → totals_of scheme file clock body plan na nc np nt
+    ≡ then (picture_totals a.codes a.sweep.figures.n_radials a.sweep.figures.n_bins scale plan nt) λ t.
+    accepted (record { sweep = a; scale = scale; fields = length t; totals = t })

@@ -13,6 +13,11 @@ use Record::{Field, Raw, Strip};
 
 pub(super) const PRECIP: Scheme = Scheme::Precip(0.254);
 
+/// Codes, radials and bins.
+type Alone<'a> = (&'a [u16], usize, usize);
+/// The totals alone, or what is refused.
+type Totals = Result<Vec<u64>, Refusal>;
+
 impl Compare {
     /// A field plan, and what must hold between it and the port's ordinary reading of the same input: the picture is the sweep's, and
     /// so are its refusals, but for 10.
@@ -39,28 +44,59 @@ impl Compare {
     }
 
     /// The totals alone, of the ordinary reading's codes: what the reading with the plan gives or refuses of the plan, and 36 with one
-    /// code fewer, or for a picture of 2^64 cells.
+    /// code fewer, or for a picture of 2^64 cells. Codes behind those of the cells leave the totals.
     fn totals_alone(&mut self, case: &Case, port: &Answer, picture: &Picture) {
-        let Case::Plan { file, scheme: Scheme::Precip(factor), plan, totals: lent, .. } = case else { return };
+        let Case::Plan { file, scheme: Scheme::Precip(_), plan, totals: lent, .. } = case else { return };
+        let want = match port {
+            Answer::Totals(_, totals) => Ok(totals.clone()),
+            Answer::Refused(refusal) => Err(*refusal),
+            _ => return,
+        };
         let block = trap::during(case, || self.port.block(file));
-        let (of_file, codes) = ((&file[..], block, *factor), &picture.codes[..]);
-        let short = Answer::Refused(Refusal::new(36, &[1]));
-        let fewer = codes.len().checked_sub(1).map(|n| ((&codes[..n], picture.radials, picture.bins), &short));
-        let asked = [((codes, picture.radials, picture.bins), port), ((codes, 1 << 32, 1 << 32), &short)];
-        for (picture, want) in asked.into_iter().chain(fewer) {
-            self.counts.totals_alone += 1;
-            let given = trap::during(case, || self.port.plan_totals(of_file, picture, plan, *lent));
-            let fault = self.port.take_fault();
-            let same = match (&given, want) {
-                (Ok(totals), Answer::Totals(_, wanted)) => totals == wanted,
-                (Err(refusal), Answer::Refused(wanted)) => refusal.same(wanted),
-                _ => false,
-            };
-            if !same || fault.is_some() {
-                let why = format!("the totals alone are {given:?} {}", fault.unwrap_or_default());
-                self.differs(&why, case, &[("wanted", want)]);
-            }
+        let (of_file, plan, short) = ((&file[..], block), (&plan[..], *lent), Err(Refusal::new(36, &[1])));
+        let (codes, radials, bins) = (&picture.codes[..], picture.radials, picture.bins);
+        self.hold_alone(case, of_file, (codes, radials, bins), plan, &want);
+        self.hold_alone(case, of_file, (codes, 1 << 32, 1 << 32), plan, &short);
+        if let Some(fewer) = codes.len().checked_sub(1) {
+            self.hold_alone(case, of_file, (&codes[..fewer], radials, bins), plan, &short);
         }
+        if want.is_ok() {
+            // more than one for each row
+            let longer = [codes, &vec![9; radials + 1]].concat();
+            self.hold_alone(case, of_file, (&longer, radials, bins), plan, &want);
+        }
+    }
+
+    /// One call for the totals alone, of a plan in a buffer of so many places.
+    fn hold_alone(
+        &mut self,
+        case: &Case,
+        of_file: (&[u8], usize),
+        picture: Alone,
+        (plan, lent): (&[u8], usize),
+        want: &Totals,
+    ) {
+        self.counts.totals_alone[0] += 1;
+        let given = trap::during(case, || self.port.plan_totals(of_file, picture, plan, lent));
+        let fault = self.port.take_fault();
+        let same = match (&given, want) {
+            (Ok(totals), Ok(wanted)) => totals == wanted,
+            (Err(refusal), Err(wanted)) => refusal.same(wanted),
+            _ => false,
+        };
+        if !same || fault.is_some() {
+            let (codes, radials, bins) = picture;
+            let of = format!("the totals alone of {} codes for {radials} radials of {bins} bins", codes.len());
+            let why = format!("{of} are {given:?}, wanted are {want:?} {}", fault.unwrap_or_default());
+            self.differs(&why, case, &[]);
+        }
+    }
+
+    /// Scale fields that are refused are so for the totals alone too, whatever the codes of a picture of 2 × 3 cells are.
+    pub(super) fn totals_unscaled(&mut self, case: &Case, refusal: &Refusal, codes: &[u16], plan: (&[u8], usize)) {
+        let Case::Prc { file, block, .. } = case else { return };
+        self.counts.totals_alone[1] += 1;
+        self.hold_alone(case, (file, *block), (codes, 2, 3), plan, &Err(*refusal));
     }
 
     /// An accepted plan; with a strip cut in two, with a strip moved, and with another code in one cell.
@@ -147,6 +183,10 @@ impl Compare {
             self.plans_in_every_lent(&file, &body);
             self.plans_by_scheme(rng, packet);
             self.every_amount(rng, packet);
+        }
+        self.totals_of_refused_scales(&file);
+        for packet in [Packet::Af1f, Packet::P28] {
+            self.totals_of_merged(rng, packet);
         }
         let body = body::of_size(rng, Packet::P16, 2, 5).bytes;
         self.most_strips(&file, &body);
@@ -298,6 +338,83 @@ impl Compare {
             let lent = Lent { azimuths: 1, codes: codes.len(), physical: codes.len() };
             let sweep = Case::Sweep { clock: 1 << 40, scheme: PRECIP, lent, file, body: body.clone() };
             self.plan(&sweep.with_plan(codes.len(), plan.clone()));
+        }
+    }
+
+    /// The totals alone where the scale fields are refused with 3, 7 and 8: of codes that are enough, too few and more, with plans of every
+    /// refusal.
+    fn totals_of_refused_scales(&mut self, file: &[u8]) {
+        let block = model::header_place(file).unwrap() + 18;
+        let with = |scale: f32, offset: f32| {
+            let mut file = file.to_vec();
+            file[block + 42..block + 46].copy_from_slice(&scale.to_be_bytes());
+            file[block + 46..block + 50].copy_from_slice(&offset.to_be_bytes());
+            file
+        };
+        let cut = [0, 42, 45, 49, 53, 55, 57].map(|len| (3, file[..block + len].to_vec()));
+        let scales = [0.0, -0.0, f32::INFINITY, f32::NAN].map(|scale| (7, with(scale, f32::NAN)));
+        let offsets = [f32::INFINITY, f32::NEG_INFINITY, f32::NAN].map(|offset| (8, with(16.0, offset)));
+        let strip = Strip([1, 0, 3, 2]);
+        let plans = [
+            vec![],
+            vec![Field(5), strip.clone(), Field(4)],
+            vec![Field(5), strip.clone(), Raw(vec![1])],
+            vec![Field(5), strip, Field(5)],
+            vec![Field(5), Strip([2, 0, 1, 1])],
+        ];
+        for (number, file) in [&cut[..], &scales, &offsets].concat() {
+            let case = Case::Prc { file, block, factor: 0.254 };
+            let (want, _) = self.both(&case);
+            let refusal = want.refusal().filter(|refusal| refusal.number == number).copied();
+            self.promise(&format!("{number} is wanted of the scale fields"), refusal.is_some());
+            let Some(refusal) = refusal else { continue };
+            for codes in [0, 5, 6, 7] {
+                for plan in &plans {
+                    for lent in [0, 2] {
+                        self.totals_unscaled(&case, &refusal, &vec![9; codes], (&plans::bytes(plan), lent));
+                    }
+                }
+            }
+        }
+    }
+
+    /// The totals alone of two receptions merged, with every mix of damaged radials: those worked out from the body's own picture with
+    /// codes 0 in the gaps.
+    fn totals_of_merged(&mut self, rng: &mut Rng, packet: Packet) {
+        let rows = [0, 1, 2].map(|radial| vec![Field(radial), Strip([radial, 0, 5, 3]), Strip([radial, 1, 3, 0xffff])]);
+        let plans =
+            [rows.concat(), vec![Field(7), Strip([3, 0, 1, 1])], vec![Field(7), Field(7)], vec![Raw(vec![9])], vec![]];
+        for flags in [[250, 1, 2], [0xffff, 0, 0], [0, 1, 2]] {
+            let file = with_flags(plain_file(rng, PRECIP), flags);
+            let block = model::header_place(&file).unwrap() + 18;
+            let body = body::of_size(rng, packet, 3, 5).bytes;
+            let (original, _) = self.both(&whole(PRECIP, &file, body.clone()));
+            let Answer::Sweep(original) = original else { continue };
+            for mix in 0..64 {
+                let damaged = |which: usize| {
+                    let mut body = body.clone();
+                    (0..3).filter(|radial| mix >> (3 * which + radial) & 1 == 1).for_each(|radial| spoil(&mut body, radial));
+                    body
+                };
+                let case = whole(PRECIP, &file, damaged(0)).with_marks(3).with_second(damaged(1));
+                let (_, port) = self.both(&case);
+                let Answer::Gaps(merged, _) = &port else { continue };
+                let mut picture = original.picture.clone();
+                for radial in (0..3).filter(|radial| mix >> radial & mix >> (3 + radial) & 1 == 1) {
+                    picture.codes[5 * radial..5 * (radial + 1)].fill(0);
+                }
+                for plan in plans.each_ref().map(|records| plans::bytes(records)) {
+                    let made = model::plans::totals(&plan, &picture, model::valid_codes(&file, block));
+                    for lent in [0, 2, 3, 4] {
+                        let want = made.clone().and_then(|totals| match totals.len() {
+                            len if len > lent => Err(Refusal::new(36, &[4])),
+                            _ => Ok(totals),
+                        });
+                        self.counts.totals_alone[2] += 1;
+                        self.hold_alone(&case, (&file, block), (&merged.picture.codes, 3, 5), (&plan, lent), &want);
+                    }
+                }
+            }
         }
     }
 

@@ -207,6 +207,20 @@ pub(super) fn read(case: &Case) -> Answer {
     Answer::Totals(sweep, made)
 }
 
+/// 36 of the codes if they are fewer than a picture of so many radials and bins has.
+pub(super) fn codes_for(codes: &[u16], radials: usize, bins: usize) -> Result<(), Refusal> {
+    let cells = match radials.checked_mul(bins) {
+        Some(cells) => cells,
+        None if slips(TotalsOfCellsIn64Bits) => radials.wrapping_mul(bins),
+        None => usize::MAX,
+    };
+    let fewer = codes.len() + usize::from(slips(TotalsOfFewerCodes)) < cells;
+    if fewer || slips(TotalsOfMoreCodesRefused) && codes.len() > cells {
+        return Err(Refusal::new(36, &[1]));
+    }
+    Ok(())
+}
+
 /// The totals of a plan over a picture's codes.
 pub(super) fn alone(
     codes: &[u16],
@@ -215,15 +229,12 @@ pub(super) fn alone(
     plan: &[u8],
     lent: usize,
 ) -> Result<Vec<u64>, Refusal> {
-    let cells = match radials.checked_mul(bins) {
-        Some(cells) => cells,
-        None if slips(TotalsOfCellsIn64Bits) => radials.wrapping_mul(bins),
-        None => usize::MAX,
-    };
-    if codes.len() + usize::from(slips(TotalsOfFewerCodes)) < cells {
-        return Err(Refusal::new(36, &[1]));
+    let room = codes_for(codes, radials, bins);
+    if !slips(TotalsCodesAfterPlan) {
+        room?;
     }
     let records = checked(plan, radials, bins)?;
+    room?;
     // The range scale is not looked at.
     let geometry = lines::Geometry::RangeScale(0);
     let picture = Picture { packet: lines::Packet::P16, radials, bins, geometry, azimuths: vec![], codes: codes.to_vec() };
