@@ -79,7 +79,7 @@ RECEPTIONS = $(ORCHARD)/DPRLOT $(ORCHARD)/DPRLOT.second
 
 account: all
 	$(BOOK) account $(ORCHARD)/block.plan $(ORCHARD)/tariff $(RECEPTIONS)
-	$(BOOK) merge $(RECEPTIONS) -o $(BUILD)/orchard.png
+	$(BOOK) merge $(RECEPTIONS) -o $(BUILD)/orchard.png --plan $(ORCHARD)/block.plan
 
 check: $(CAPI)
 	BUILD=$(BUILD)/check CAPI=$(CAPI) SECONDS_OF_FUZZ=$(SECONDS_OF_FUZZ) PYTHON=$(PYTHON) hosts/check

@@ -3,7 +3,8 @@
  * FOLDER has product files and, as NAME.body, their unpacked symbology; tests/samples.py writes such a folder. Each call is made twice
  * with the same input: once with every array against the guard page behind it, once against the one before it, and with two fills of
  * what is written to. It must return the same, leave what it reads, write the same bytes or none at each place, and write nothing but the
- * report when it refuses. A touched guard page ends the program with the entry's name, the seed and the number of the case.
+ * report when it refuses. A touched guard page ends the program with the entry's name, the seed and the number of the case. At the end
+ * stands for each entry how many inputs it accepted and refused; one that accepted none is a failure.
  */
 #include <dirent.h>
 #include <pthread.h>
@@ -20,10 +21,10 @@
 
 /* ---- arrays between guard pages */
 
-enum { IN_FILE, IN_BODY, IN_SECOND, IN_PLAN, IN_CODES, IN_ENDS, IN_RATES,
+enum { IN_FILE, IN_BODY, IN_SECOND, IN_PLAN, IN_CODES, IN_ENDS, IN_RATES, IN_THRESHOLDS,
        OUT_AZIMUTHS, OUT_CODES, OUT_PHYSICAL, OUT_MARKS, OUT_TOTALS, OUT_OUTPUT, OUT_THRESHOLDS, OUT_LEVELS, OUT_TABLE, OUT_NAME, INTS, FLOATS, ARRAYS };
-static const size_t element[ARRAYS] = {1, 1, 1, 1, 2, 8, 4, 8, 2, 4, 1, 8, 1, 1, 4, 2, 1, 8, 8};
-static const size_t room[ARRAYS] = {1 << 16, 1 << 20, 1 << 20, 1 << 16, 1 << 16, 256, 256,
+static const size_t element[ARRAYS] = {1, 1, 1, 1, 2, 8, 4, 1, 8, 2, 4, 1, 8, 1, 1, 4, 2, 1, 8, 8};
+static const size_t room[ARRAYS] = {1 << 16, 1 << 20, 1 << 20, 1 << 16, 1 << 16, 256, 256, 256,
                                     1 << 20, 1 << 20, 1 << 21, 1 << 17, 1 << 16, 1 << 20, 256, 256, 256, 64, 512, 256};
 
 struct arena { uint8_t *start, *end; };
@@ -48,6 +49,7 @@ struct input {
     uint32_t scheme, kind, item, number;
     float parameter;
     size_t block, index, at, radials, bins;
+    size_t body_radials, body_bins; /* of the body as it was made */
     uint16_t days;
     int32_t seconds;
     int16_t code;
@@ -58,8 +60,7 @@ struct worker {
     struct input in;
     uint64_t random, seed, cases;
     const char *entry;
-    unsigned long accepted, refused;
-    atomic_ulong calls[64];
+    atomic_ulong counts[64][2]; /* of each entry, how many inputs were accepted and refused */
     pthread_t thread;
 };
 
@@ -124,7 +125,7 @@ static uint32_t c_threshold(const struct input *in, void *const p[ARRAYS])
 }
 static uint32_t c_legacy16(const struct input *in, void *const p[ARRAYS])
 {
-    return l3_legacy16(BODY_ARGS, in->parameter, p[OUT_LEVELS], in->length[OUT_LEVELS]);
+    return l3_legacy16(p[IN_THRESHOLDS], in->length[IN_THRESHOLDS], in->parameter, p[OUT_LEVELS], in->length[OUT_LEVELS]);
 }
 static uint32_t c_physical(const struct input *in, void *const p[ARRAYS])
 {
@@ -148,15 +149,22 @@ static uint32_t c_refusal_name(const struct input *in, void *const p[ARRAYS])
 }
 static uint32_t c_version(const struct input *in, void *const p[ARRAYS]) { (void)in, (void)p; return l3_version(); }
 
-/* often: how many parts of all calls; plain: what it returns is not a refusal */
-struct entry { const char *name; call *call; unsigned often; int plain; };
+/* often: how many parts of all calls; plain: what it returns is not a refusal; draw: input that is its own */
+struct entry { const char *name; call *call; unsigned often; int plain; void (*draw)(struct worker *w); };
 static struct entry entries[64];
 static size_t entry_count, parts;
 
 static void add(const char *name, call *function, unsigned often, int plain)
 {
-    entries[entry_count++] = (struct entry){name, function, often, plain};
+    entries[entry_count++] = (struct entry){name, function, often, plain, NULL};
     parts += often;
+}
+
+static void draw_for(const char *name, void (*draw)(struct worker *w))
+{
+    for (size_t n = 0; n < entry_count; n++)
+        if (strcmp(entries[n].name, name) == 0)
+            entries[n].draw = draw;
 }
 
 static void list_entries(void)
@@ -175,9 +183,9 @@ static void list_entries(void)
 
 /* ---- input */
 
-struct sample { uint8_t *file, *body; size_t file_len, body_len; };
+struct sample { uint8_t *file, *body; size_t file_len, body_len, block, radials, bins; uint32_t scheme; float parameter; };
 static struct sample samples[256];
-static size_t sample_count;
+static size_t sample_count, rain[256], rain_count; /* the places of rain products among them */
 
 static uint8_t *read_whole(const char *path, size_t most, size_t *length)
 {
@@ -188,6 +196,26 @@ static uint8_t *read_whole(const char *path, size_t most, size_t *length)
     *length = bytes == NULL ? 0 : fread(bytes, 1, most, file);
     fclose(file);
     return bytes;
+}
+
+/* where its description block stands, its scheme by the product table, and its picture's size */
+static void look_into(struct sample *s)
+{
+    int64_t ints[L3_INTS];
+    double floats[L3_FLOATS];
+    static double azimuths[1 << 16];
+    static uint16_t codes[1 << 20];
+    s->block = 48, s->radials = 1, s->bins = 1;
+    if (l3_message_header(s->file, s->file_len, ints, L3_INTS, floats, L3_FLOATS) == L3_ACCEPTED) {
+        s->block = (size_t)ints[0] + 18;
+        const uint8_t *code = s->file + ints[0];
+        if (l3_product((int16_t)(code[0] << 8 | code[1]), ints, L3_INTS, floats, L3_FLOATS) == L3_ACCEPTED && ints[L3_KNOWN])
+            s->scheme = (uint32_t)ints[L3_SCHEME], s->parameter = (float)floats[L3_PARAMETER];
+    }
+    if (l3_symbology(s->body, s->body_len, azimuths, 1 << 16, codes, 1 << 20, ints, L3_INTS, floats, L3_FLOATS) == L3_ACCEPTED)
+        s->radials = (size_t)ints[L3_RADIALS], s->bins = (size_t)ints[L3_BINS];
+    else if (s->body_len >= 30 && s->body[17] != 28)
+        s->bins = (size_t)(s->body[20] << 8 | s->body[21]), s->radials = (size_t)(s->body[28] << 8 | s->body[29]);
 }
 
 static void read_samples(const char *folder)
@@ -207,12 +235,16 @@ static void read_samples(const char *folder)
         s.body = read_whole(path, room[IN_BODY], &s.body_len);
         path[strlen(path) - 5] = 0;
         s.file = read_whole(path, 1 << 12, &s.file_len);
-        if (s.file != NULL && s.body != NULL && s.body_len < 1 << 17)
-            samples[sample_count++] = s;
+        if (s.file == NULL || s.body == NULL || s.body_len >= 1 << 17)
+            continue;
+        look_into(&s);
+        if (s.scheme == L3_PRECIPITATION)
+            rain[rain_count++] = sample_count;
+        samples[sample_count++] = s;
     }
     closedir(dir);
-    if (sample_count == 0) {
-        fprintf(stderr, "%s: no samples\n", folder);
+    if (rain_count == 0) {
+        fprintf(stderr, "%s: no samples, or none of rain\n", folder);
         exit(2);
     }
 }
@@ -252,7 +284,7 @@ static size_t damage(struct worker *w, uint8_t *bytes, size_t length, size_t mos
 static size_t some(struct worker *w, size_t right, size_t most)
 {
     size_t n = right;
-    switch (below(w, 8)) {
+    switch (below(w, 20)) {
     case 0: n = right > 0 ? right - 1 : 0; break;
     case 1: n = below(w, right + 1); break;
     case 2: n = right + below(w, 64); break;
@@ -262,7 +294,7 @@ static size_t some(struct worker *w, size_t right, size_t most)
 }
 
 /* mostly one of the smaller ones, which are quicker */
-static struct sample *pick(struct worker *w)
+static const struct sample *pick(struct worker *w)
 {
     struct sample *best = &samples[below(w, sample_count)];
     for (size_t n = below(w, 16) ? 4 : 0; n > 0; n--) {
@@ -272,48 +304,117 @@ static struct sample *pick(struct worker *w)
     return best;
 }
 
-static void new_case(struct worker *w)
+/* file and body of two samples, of which one in damaged is damaged, and room for the picture */
+static void load(struct worker *w, const struct sample *s, const struct sample *t, size_t damaged)
 {
     struct input *in = &w->in;
-    struct sample *s = pick(w), *t = below(w, 4) ? s : pick(w);
     memcpy(in->bytes[IN_FILE], s->file, s->file_len);
     memcpy(in->bytes[IN_BODY], t->body, t->body_len);
     memcpy(in->bytes[IN_SECOND], t->body, t->body_len);
-    in->length[IN_FILE] = below(w, 2) ? s->file_len : damage(w, in->bytes[IN_FILE], s->file_len, room[IN_FILE]);
-    in->length[IN_BODY] = below(w, 2) ? t->body_len : damage(w, in->bytes[IN_BODY], t->body_len, room[IN_BODY]);
-    in->length[IN_SECOND] = below(w, 2) ? t->body_len : damage(w, in->bytes[IN_SECOND], t->body_len, room[IN_SECOND]);
-    size_t bins = 1, radials = 1;
-    if (t->body_len >= 30)
-        bins = (size_t)(t->body[20] << 8 | t->body[21]), radials = (size_t)(t->body[28] << 8 | t->body[29]);
-    if (t->body_len >= 18 && t->body[17] == 28)
-        radials = t->body_len / 24, bins = t->body_len / 4 / radials + 1;
-    size_t cells = radials * bins > 200000 ? 200000 : radials * bins;
+    in->length[IN_FILE] = below(w, damaged) ? s->file_len : damage(w, in->bytes[IN_FILE], s->file_len, room[IN_FILE]);
+    in->length[IN_BODY] = below(w, damaged) ? t->body_len : damage(w, in->bytes[IN_BODY], t->body_len, room[IN_BODY]);
+    in->length[IN_SECOND] = below(w, damaged) ? t->body_len : damage(w, in->bytes[IN_SECOND], t->body_len, room[IN_SECOND]);
+    in->block = below(w, 4) ? s->block : below(w, 2) ? below(w, 300) : (size_t)next(w);
+    size_t radials = t->radials, bins = t->bins, cells = radials * bins > 200000 ? 200000 : radials * bins;
+    in->body_radials = radials, in->body_bins = bins;
+    in->length[OUT_AZIMUTHS] = some(w, radials, room[OUT_AZIMUTHS] / 8);
+    in->length[OUT_CODES] = some(w, cells, room[OUT_CODES] / 2);
+    in->length[OUT_PHYSICAL] = some(w, cells, room[OUT_PHYSICAL] / 4);
+    in->length[OUT_MARKS] = some(w, radials, room[OUT_MARKS]);
+    in->length[OUT_OUTPUT] = some(w, 30 + radials * (7 + bins), room[OUT_OUTPUT]);
+}
 
-    /* a plan, mostly well made, and trailing bytes now and then */
+/* a plan for a picture, mostly well made and inside it, and room for its totals */
+static void draw_plan(struct worker *w, size_t radials, size_t bins)
+{
+    struct input *in = &w->in;
     uint8_t *plan = in->bytes[IN_PLAN];
-    size_t length = 0;
+    size_t length = 0, fields = 0, number = below(w, 60000), outside = below(w, 16) == 0 || radials == 0 || bins == 0;
     for (size_t n = below(w, 12); n > 0; n--) {
         if (length == 0 || below(w, 3) == 0) {
-            const uint8_t field[] = {1, 0, 2, (uint8_t)below(w, 3), (uint8_t)next(w)};
-            memcpy(plan + length, field, sizeof field), length += sizeof field;
+            number += below(w, 64) ? 1 + below(w, 300) : 0;
+            const uint8_t field[] = {1, 0, 2, (uint8_t)(number >> 8), (uint8_t)number};
+            memcpy(plan + length, field, sizeof field), length += sizeof field, fields++;
         } else {
-            size_t r = below(w, radials + 1), g = below(w, bins + 1), k = 1 + below(w, bins), weight = below(w, 65536);
+            size_t r = below(w, radials + outside), g = below(w, bins + outside), k = 1 + below(w, outside ? bins : bins - g), weight = below(w, 65536);
             const uint8_t strip[] = {2, 0, 8, (uint8_t)(r >> 8), (uint8_t)r, (uint8_t)(g >> 8), (uint8_t)g, (uint8_t)(k >> 8), (uint8_t)k,
                                      (uint8_t)(weight >> 8), (uint8_t)weight};
             memcpy(plan + length, strip, sizeof strip), length += sizeof strip;
         }
     }
-    if (below(w, 8) == 0)
-        memcpy(plan, "\r\r\n\3\0\0", 6), length = 6;
-    in->length[IN_PLAN] = below(w, 2) ? length : damage(w, plan, length, room[IN_PLAN]);
+    in->length[IN_PLAN] = below(w, 6) ? length : damage(w, plan, length, room[IN_PLAN]);
+    in->length[OUT_TOTALS] = some(w, fields, room[OUT_TOTALS] / 8);
+}
+
+/* mostly the smaller of two */
+static const struct sample *pick_rain(struct worker *w)
+{
+    const struct sample *s = &samples[rain[below(w, rain_count)]], *t = &samples[rain[below(w, rain_count)]];
+    return t->body_len < s->body_len && below(w, 8) ? t : s;
+}
+
+static void draw_totals(struct worker *w)
+{
+    if (below(w, 8)) {
+        const struct sample *s = pick_rain(w);
+        load(w, s, s, 8);
+        w->in.scheme = below(w, 16) ? L3_PRECIPITATION : w->in.scheme;
+    }
+    draw_plan(w, w->in.body_radials, w->in.body_bins);
+}
+
+static void draw_plan_totals(struct worker *w)
+{
+    struct input *in = &w->in;
+    if (below(w, 8)) {
+        const struct sample *s = pick_rain(w);
+        load(w, s, s, 8);
+    }
+    in->radials = 1 + below(w, 30), in->bins = 1 + below(w, 60);
+    draw_plan(w, in->radials, in->bins);
+    in->length[IN_CODES] = some(w, in->radials * in->bins, room[IN_CODES] / 2);
+    for (size_t i = 0; i < in->length[IN_CODES]; i++) {
+        uint16_t code = (uint16_t)(below(w, 2) ? below(w, 20) : next(w));
+        memcpy(in->bytes[IN_CODES] + 2 * i, &code, 2);
+    }
+    if (below(w, 12) == 0)
+        *(below(w, 2) ? &in->radials : &in->bins) = below(w, 2) ? below(w, 80) : (size_t)next(w);
+}
+
+static void draw_trailing(struct worker *w)
+{
+    struct input *in = &w->in;
+    if (below(w, 2)) {
+        memcpy(in->bytes[IN_PLAN], "\r\r\n\3\0\0", 6);
+        in->length[IN_PLAN] = below(w, 2) ? 6 : damage(w, in->bytes[IN_PLAN], 6, room[IN_PLAN]);
+    } else {
+        draw_plan(w, 100, 100);
+    }
+}
+
+/* thresholds of a file, or any bytes */
+static void draw_thresholds(struct worker *w)
+{
+    struct input *in = &w->in;
+    const struct sample *s = &samples[below(w, sample_count)];
+    for (size_t i = 0; i < 64; i++)
+        in->bytes[IN_THRESHOLDS][i] = (uint8_t)next(w);
+    if (below(w, 2) && s->block + 74 <= s->file_len)
+        memcpy(in->bytes[IN_THRESHOLDS], s->file + s->block + 42, 32);
+    in->length[IN_THRESHOLDS] = below(w, 8) ? 32 : below(w, 64);
+}
+
+static void new_case(struct worker *w)
+{
+    struct input *in = &w->in;
+    const struct sample *s = pick(w), *t = below(w, 4) ? s : pick(w);
+    load(w, s, t, 2);
 
     in->length[IN_CODES] = below(w, 512);
     for (size_t i = 0; i < in->length[IN_CODES]; i++) {
         uint16_t code = (uint16_t)(below(w, 2) ? below(w, 20) : next(w));
         memcpy(in->bytes[IN_CODES] + 2 * i, &code, 2);
     }
-    in->bins = below(w, 8) ? bins : below(w, 2) ? below(w, 40) : (size_t)next(w);
-    in->radials = below(w, 8) && in->bins > 0 ? in->length[IN_CODES] / in->bins : below(w, 2) ? below(w, 40) : (size_t)next(w);
     in->length[IN_ENDS] = below(w, 10);
     in->length[IN_RATES] = below(w, 4) ? in->length[IN_ENDS] : below(w, 10);
     uint64_t end = 0;
@@ -323,12 +424,6 @@ static void new_case(struct worker *w)
         memcpy(in->bytes[IN_ENDS] + 8 * i, &end, 8), memcpy(in->bytes[IN_RATES] + 4 * i, &rate, 4);
     }
 
-    in->length[OUT_AZIMUTHS] = some(w, radials, room[OUT_AZIMUTHS] / 8);
-    in->length[OUT_CODES] = some(w, cells, room[OUT_CODES] / 2);
-    in->length[OUT_PHYSICAL] = some(w, cells, room[OUT_PHYSICAL] / 4);
-    in->length[OUT_MARKS] = some(w, radials, room[OUT_MARKS]);
-    in->length[OUT_TOTALS] = some(w, 6, room[OUT_TOTALS] / 8);
-    in->length[OUT_OUTPUT] = some(w, 30 + radials * (7 + bins), room[OUT_OUTPUT]);
     in->length[OUT_THRESHOLDS] = below(w, 8) ? 32 : below(w, 64);
     in->length[OUT_LEVELS] = below(w, 8) ? 16 : below(w, 32);
     in->length[OUT_TABLE] = below(w, 4) ? 26 : below(w, 40);
@@ -339,9 +434,10 @@ static void new_case(struct worker *w)
     static const float parameters[] = {0.254F, 25.4F, 1.0F, 0.514444F, 0.0F, -1.0F, 1e38F};
     in->parameter = parameters[below(w, 7)];
     in->scheme = (uint32_t)below(w, below(w, 32) ? 5 : 9);
+    if (below(w, 2))
+        in->scheme = s->scheme, in->parameter = s->parameter;
     in->clock = below(w, 16) ? 1800000000 : next(w) >> below(w, 64);
     in->kind = (uint32_t)below(w, 6), in->item = (uint32_t)below(w, 10);
-    in->block = below(w, 4) ? 48 : below(w, 2) ? below(w, 300) : (size_t)next(w);
     in->index = below(w, 4) ? below(w, 60) : (size_t)next(w);
     in->at = below(w, 4) ? below(w, in->length[IN_BODY] + 8) : (size_t)next(w);
     in->days = (uint16_t)next(w), in->seconds = below(w, 2) ? (int32_t)below(w, 90000) : (int32_t)next(w);
@@ -405,10 +501,7 @@ static void twice(struct worker *w, const struct entry *e)
                 break;
             }
     }
-    if (answer[0] == 0)
-        w->accepted++;
-    else
-        w->refused++;
+    atomic_fetch_add(&w->counts[e - entries][!e->plain && answer[0] != 0], 1);
 }
 
 static void *work(void *argument)
@@ -421,7 +514,8 @@ static void *work(void *argument)
             while (part >= entries[n].often)
                 part -= entries[n++].often;
             w->entry = entries[n].name;
-            atomic_fetch_add(&w->calls[n], 1);
+            if (entries[n].draw != NULL)
+                entries[n].draw(w);
             twice(w, &entries[n]);
         }
         w->cases++;
@@ -442,11 +536,14 @@ static void touched(int signal)
 
 static struct worker workers[2];
 
-/* the first entry that no thread has called, or entry_count */
-static size_t uncalled(void)
+/* how many inputs of an entry were accepted (0) or refused (1) */
+static unsigned long counted(size_t n, int refused) { return atomic_load(&workers[0].counts[n][refused]) + atomic_load(&workers[1].counts[n][refused]); }
+
+/* the first entry of which no input was accepted, or entry_count */
+static size_t untried(void)
 {
     size_t n = 0;
-    while (n < entry_count && atomic_load(&workers[0].calls[n]) + atomic_load(&workers[1].calls[n]) > 0)
+    while (n < entry_count && counted(n, 0) > 0)
         n++;
     return n;
 }
@@ -460,6 +557,8 @@ int main(int count, char **words)
     unsigned long seconds = strtoul(words[1], NULL, 10), seed = strtoul(words[2], NULL, 10);
     read_samples(words[3]);
     list_entries();
+    draw_for("l3_totals", draw_totals), draw_for("l3_plan_totals", draw_plan_totals), draw_for("l3_trailing", draw_trailing);
+    draw_for("l3_legacy16", draw_thresholds);
     signal(SIGSEGV, touched), signal(SIGBUS, touched), signal(SIGILL, touched), signal(SIGFPE, touched), signal(SIGABRT, touched);
     for (size_t t = 0; t < 2; t++) {
         struct worker *w = &workers[t];
@@ -473,18 +572,23 @@ int main(int count, char **words)
         if (pthread_create(&w->thread, NULL, work, w) != 0)
             return 2;
     }
-    /* on a busy machine longer, until every entry has been called */
-    for (time_t end = time(NULL) + (time_t)seconds; (time(NULL) < end || (uncalled() < entry_count && time(NULL) < end + 600)) && !atomic_load(&stop);)
+    /* on a busy machine longer, until every entry has accepted an input */
+    for (time_t end = time(NULL) + (time_t)seconds; (time(NULL) < end || (untried() < entry_count && time(NULL) < end + 600)) && !atomic_load(&stop);)
         usleep(100000);
     atomic_store(&stop, 1);
-    unsigned long accepted = 0, refused = 0;
-    for (size_t t = 0; t < 2; t++) {
+    for (size_t t = 0; t < 2; t++)
         pthread_join(workers[t].thread, NULL);
-        accepted += workers[t].accepted, refused += workers[t].refused;
-    }
-    if (!atomic_load(&failed) && uncalled() < entry_count) {
-        fprintf(stderr, "%s: never called\n", entries[uncalled()].name);
+    if (!atomic_load(&failed) && untried() < entry_count) {
+        fprintf(stderr, "%s: no input was accepted\n", entries[untried()].name);
         atomic_store(&failed, 1);
+    }
+    unsigned long accepted = 0, refused = 0;
+    for (size_t n = 0; n < entry_count; n++) {
+        if (entries[n].plain)
+            printf("%-18s %9lu calls\n", entries[n].name, counted(n, 0));
+        else
+            printf("%-18s %9lu accepted %9lu refused\n", entries[n].name, counted(n, 0), counted(n, 1));
+        accepted += counted(n, 0), refused += counted(n, 1);
     }
     printf("%zu entries, %lu inputs each called twice, %lu accepted, %lu refused, %s\n", entry_count, accepted + refused, accepted, refused,
            atomic_load(&failed) ? "FAILED" : "all well");

@@ -1,4 +1,5 @@
-//! example FILE SCHEME [PARAMETER]: the figures of a product file whose symbology is plain.
+//! example FILE [SCHEME [PARAMETER]]: the figures of a product file whose symbology is plain. Scheme, a number of l3.h, and parameter are
+//! those of the product table unless a scheme is given.
 //!
 //!     rustc --edition 2021 -O example.rs -L native=FOLDER -l static=yasgulet -l m
 
@@ -10,6 +11,7 @@ const FLOATS: usize = 8;
 
 extern "C" {
     fn l3_message_header(file: *const u8, file_len: usize, ints: *mut i64, ints_len: usize, floats: *mut f64, floats_len: usize) -> u32;
+    fn l3_product(code: i16, ints: *mut i64, ints_len: usize, floats: *mut f64, floats_len: usize) -> u32;
     fn l3_sweep(
         file: *const u8, file_len: usize, clock: u64, scheme: u32, parameter: f32, body: *const u8, body_len: usize,
         azimuths: *mut f64, azimuths_len: usize, codes: *mut u16, codes_len: usize, physical: *mut f32, physical_len: usize,
@@ -37,6 +39,14 @@ fn message_header(file: &[u8]) -> Result<usize, (u32, Report)> {
     if refused == 0 { Ok(report.ints[0] as usize) } else { Err((refused, report)) }
 }
 
+/// The scheme of a product code and its parameter by the product table, if the code is in it.
+fn scheme_of(code: i16) -> Option<(u32, f32)> {
+    let mut report = Report::default();
+    // As above.
+    let refused = unsafe { l3_product(code, report.ints.as_mut_ptr(), INTS, report.floats.as_mut_ptr(), FLOATS) };
+    (refused == 0 && report.ints[0] != 0).then_some((report.ints[1] as u32, report.floats[0] as f32))
+}
+
 fn sweep(file: &[u8], clock: u64, scheme: u32, parameter: f32, body: &[u8]) -> Result<Sweep, (u32, Report)> {
     let mut report = Report::default();
     let (mut azimuths, mut codes, mut values) = (vec![0.0f64; 100_000], vec![0u16; 4_000_000], vec![0.0f32; 4_000_000]);
@@ -57,11 +67,13 @@ fn sweep(file: &[u8], clock: u64, scheme: u32, parameter: f32, body: &[u8]) -> R
 
 fn main() -> ExitCode {
     let words: Vec<String> = std::env::args().collect();
-    let (Some(path), Some(scheme)) = (words.get(1), words.get(2).and_then(|w| w.parse().ok())) else {
-        eprintln!("example FILE SCHEME [PARAMETER]");
+    let scheme: Option<u32> = words.get(2).and_then(|w| w.parse().ok());
+    let parameter: Option<f32> = words.get(3).and_then(|w| w.parse().ok());
+    if !(2..=4).contains(&words.len()) || scheme.is_some() != (words.len() > 2) || parameter.is_some() != (words.len() > 3) {
+        eprintln!("example FILE [SCHEME [PARAMETER]]");
         return ExitCode::from(2);
-    };
-    let parameter = words.get(3).and_then(|w| w.parse().ok()).unwrap_or(0.0);
+    }
+    let path = &words[1];
     let file = match std::fs::read(path) {
         Ok(file) => file,
         Err(error) => {
@@ -76,6 +88,11 @@ fn main() -> ExitCode {
             eprintln!("{path}: packed; unpack what follows byte {}", header + 120);
             return Ok(None);
         }
+        let code = i16::from_be_bytes([file[header], file[header + 1]]);
+        let Some((scheme, parameter)) = scheme.map(|s| (s, parameter.unwrap_or(0.0))).or_else(|| scheme_of(code)) else {
+            eprintln!("{path}: product code {code} is not in the product table: give a scheme");
+            return Ok(None);
+        };
         sweep(&file, clock, scheme, parameter, body).map(Some)
     });
     match answer {

@@ -8,7 +8,6 @@ use mathlib.Core.Path.{◌≡◌, refl, sym, ap, ap₂, subst, ◌∙◌}
 use lib.Dec.{ltb}
 use lib.Ieee.{Float}
 use lib.ListN.{length, take, drop, length-append}
-use lib.Seq.{length-take-le}
 use borrow.Author.Tests.{ltb-false}
 use Rattle.std.specs.Prelude as Std
 use Rattle.wire.specs.Refusal.{Refusal, kind, buffer}
@@ -27,9 +26,11 @@ use Rattle.sweep.proofs.Parts.{Sizes, sizes, codes_fit}
 use Rattle.sweep.proofs.Reading.{no_picture_lem, given_in, front_is}
 use Rattle.fields.specs.declared.fields.Checked.{Checked}
 use Rattle.fields.specs.Plan.{entries_of, plan_of}
-use Rattle.fields.specs.Totals.{grid, totals, items}
+use Rattle.fields.specs.Totals.{totals, items}
 use Rattle.fields.specs.Fields.{TotalsAnswer, rain_scale, rain_of, Totalled, grid_of, planned, totals_of, totals_in, checked_in, checked_on, totals_buffers, TotalsRan}
+use Rattle.fields.specs.Picture.{picture_totals, fields_in}
 use Rattle.fields.proofs.Writing as writing
+use Rattle.fields.proofs.PictureTotals.{of_picture}
 
 -- ---- the plan over a sweep
 
@@ -164,9 +165,6 @@ module _ (scheme : Scheme) (file : List ℕ) (clock : ℕ) (body plan : List ℕ
     pub cells_fit : k.sweep.figures.n_radials * k.sweep.figures.n_bins ≤ length cs
     cells_fit = rw w.told (codes_fit scheme file clock body (length az) (length cs) (length ph) w.t.sweep from.sweeps)
 
-    pub totals_fit : k.fields ≤ length ts
-    totals_fit = rw w.told from.room
-
     module _ {cs' : List ℕ} (c : cs' ≡ lent S (λ p. p.codes) cs) where
       now_codes : cs' ≡ w.t.sweep.codes ++ drop (length w.t.sweep.codes) cs
       now_codes = c ∙ ap (λ r. lent r (λ p. p.codes) cs) from.sweeps
@@ -181,25 +179,28 @@ module _ (scheme : Scheme) (file : List ℕ) (clock : ℕ) (body plan : List ℕ
           let e : length cs' ≡ length l + length (drop (length l) cs) = ap length now_codes ∙ length-append l (drop (length l) cs) in
           rw w.told (omega (arith, e, long.codes))
 
-      pub asks : (plan_of plan k.sweep.figures.n_radials k.sweep.figures.n_bins ≡ accepted (length (take k.fields ts)))
-          × (k.sweep.figures.n_radials * k.sweep.figures.n_bins ≤ length (take (k.sweep.figures.n_radials * k.sweep.figures.n_bins) cs'))
-      asks = (
-        rw (length-take-le k.fields ts totals_fit) (rw w.told from.plans),
-        let e = length-take-le _ cs' cells_there in omega (arith, e),
-      )
+      -- the totals of these cells, which are the reading's
+      abbrev cells_totals : Result (List ℕ)
+      cells_totals =
+          picture_totals (take (k.sweep.figures.n_radials * k.sweep.figures.n_bins) cs') k.sweep.figures.n_radials k.sweep.figures.n_bins k.scale plan (length ts)
 
-      -- the totals over some codes, by the check's figures and scale
-      abbrev totals_by : Checked → List ℕ → List ℕ
-      totals_by q codes = totals (grid codes q.sweep.figures.n_bins q.scale.floor q.scale.ceiling) (items (entries_of plan))
+      given : cells_totals ≡ accepted w.t.totals
+      given = rw (front, w.told)
+          (through (picture_totals w.t.sweep.codes w.t.sweep.sweep.figures.n_radials w.t.sweep.sweep.figures.n_bins w.t.scale plan (length ts)) _ w.t
+          (sym (of_picture scheme file clock body plan (length az) (length cs) (length ph) (length ts) w.t.scale w.t.sweep from.rain from.sweeps) ∙ w.is)
+          λ o eo e. eo ∙ ap accepted (ap (λ (t : Totalled). t.totals) (one_value e)))
 
-      pub done : {az' ph' : List Float} {out : List ℕ} → az' ≡ lent S (λ p. p.azimuths) az → ph' ≡ lent S (λ p. p.physical) ph
-          → out ≡ totals_by k (take (k.sweep.figures.n_radials * k.sweep.figures.n_bins) cs')
-          → Reads (Std.Ok (record { sweep = k.sweep; fields = k.fields })) az' cs' ph' (out ++ drop k.fields ts)
-      done {out = out} a p o =
-          let same : out ≡ w.t.totals =
-          o ∙ ap (totals_by k) front ∙ ap (λ (q : Checked). totals_by q w.t.sweep.codes) w.told ∙ sym from.totals_are in
-          let many : length w.t.totals ≡ k.fields =
-          many_totals scheme file clock body plan (length az) (length cs) (length ph) (length ts) w.t w.is ∙ sym (ap (λ (q : Checked). q.fields) w.told) in
-          told (sym w.is) (ap (λ (q : Checked). accepted (record { sweep = q.sweep; fields = q.fields })) w.told)
+      -- an answer of the code that can't be
+      pub totals_accept : {C : Type 0} {x : Refusal} → refused x ≡ fields_in cells_totals → C
+      totals_accept {x = x} e = clash (length w.t.totals) x (e ∙ ap fields_in given)
+
+      pub done : {az' ph' : List Float} {n : ℕ} {out : List ℕ} → az' ≡ lent S (λ p. p.azimuths) az → ph' ≡ lent S (λ p. p.physical) ph
+          → accepted n ≡ fields_in cells_totals
+          → out ≡ lent cells_totals (λ t. t) ts
+          → Reads (Std.Ok (record { sweep = k.sweep; fields = n })) az' cs' ph' out
+      done {n = n} a p i o =
+          let many : n ≡ w.t.fields =
+          one_value (i ∙ ap fields_in given) ∙ many_totals scheme file clock body plan (length az) (length cs) (length ph) (length ts) w.t w.is in
+          told (sym w.is) (ap₂ (λ (q : Checked) m. accepted (record { sweep = q.sweep; fields = m })) w.told many)
           (a ∙ ap (λ r. lent r (λ q. q.azimuths) az) from.sweeps) now_codes (p ∙ ap (λ r. lent r (λ q. q.physical) ph) from.sweeps)
-          (ap₂ (λ u n. u ++ drop n ts) same (sym many))
+          (o ∙ ap (λ r. lent r (λ t. t) ts) given)

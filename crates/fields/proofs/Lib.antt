@@ -17,3 +17,4 @@ pub mod CodeRuns
 pub mod Clear
 pub mod Coherence
 pub mod PictureTotals
+pub mod PictureCalls

@@ -7,7 +7,7 @@ ghost use Rattle.wire.specs.Result.{accepted, answer, refused, then};
 ghost use Rattle.symbology.specs.Answers.{picture_of};
 ghost use Rattle.fields.specs.Fields.{totals_of, checked_in, checked_on, totals_buffers, TotalsRan};
 
-use crate::totals::Grid;
+use crate::picture::picture_totals;
 use scale::physical::{Scaling, Scheme};
 use scale::scaling::PrecipScale;
 use sweep::sweep::Sweep;
@@ -117,16 +117,16 @@ pub fn read_sweep_with_totals(
     sweep::sweep::read_sweep(file, clock, scheme, body, azimuths, codes, physical)?;
     let figures = done.sweep.figures;
     let cells = figures.n_radials * figures.n_bins;
-    let grid = Grid {
-        codes: &codes[..cells],
-        radials: figures.n_radials,
-        bins: figures.n_bins,
-        floor: u16::from(done.scale.floor),
-        ceiling: done.scale.ceiling,
-    };
-    grid.write_totals(plan, &mut totals[..done.fields]);
+    let fields = picture_totals(
+        &codes[..cells],
+        figures.n_radials,
+        figures.n_bins,
+        done.scale,
+        plan,
+        totals,
+    )?;
     Ok(SweepTotals {
         sweep: done.sweep,
-        fields: done.fields,
+        fields,
     })
 }

@@ -13,21 +13,29 @@ import sys
 import tempfile
 import threading
 import time
-from typing import Callable, Tuple
+from typing import Callable, List, Sequence, Tuple
 
 from common import CLOCK, environment, large, reader, samples
 from yasgulet import picture
 
 
+def once(work: Callable[[], object]) -> Tuple[float, float]:
+    """Time by the clock and of the processor, in seconds."""
+    a, b = time.perf_counter(), time.process_time()
+    work()
+    return time.perf_counter() - a, time.process_time() - b
+
+
 def best(work: Callable[[], object], times: int) -> Tuple[float, float]:
-    """Best time by the clock and of the processor, in seconds."""
-    clock, processor = [], []
-    for _ in range(times):
-        a, b = time.perf_counter(), time.process_time()
-        work()
-        clock.append(time.perf_counter() - a)
-        processor.append(time.process_time() - b)
+    """The best of several times."""
+    clock, processor = zip(*(once(work) for _ in range(times)))
     return min(clock), min(processor)
+
+
+def in_turn(works: Sequence[Callable[[], object]], rounds: int, times: int = 3) -> List[Tuple[float, float]]:
+    """The best times of several works, each done a few times before the next has its turn, so that the machine is alike to all."""
+    found = [[best(work, times) for work in works] for _ in range(rounds)]
+    return [(min(clock for clock, _ in one), min(processor for _, processor in one)) for one in zip(*found)]
 
 
 def say(name: str, figures: Tuple[float, float]) -> None:
@@ -43,8 +51,7 @@ def one_file() -> None:
         path = os.path.join(folder, "N0B")
         with open(path, "wb") as file:
             file.write(data)
-        unpack = best(lambda: bz2.BZ2Decompressor().decompress(stream), 40)
-        read = best(lambda: one.sweep(path), 40)
+        unpack, read = in_turn([lambda: bz2.BZ2Decompressor().decompress(stream), lambda: one.sweep(path)], 30)
         say("bzip2 alone, %d bytes" % len(stream), unpack)
         say("file to numbers, 720 x 1,840", read)
         print("%-44s %8.2f by the clock, %8.2f of the processor" % ("ratio", read[0] / unpack[0], read[1] / unpack[1]))

@@ -1,4 +1,5 @@
 """The rain book: totals, charges and sums are held to a plain count over the codes that the generator wrote."""
+import bz2
 import csv
 import io
 import os
@@ -11,10 +12,11 @@ import sys
 import textwrap
 from array import array
 from fractions import Fraction
+from pathlib import Path
 from typing import Any, Dict, List, NamedTuple, Optional, Sequence, Set, Tuple
 
 import orchard
-from common import HERE, ROOT, Folder, environment, made, older, reader, samples, unittest
+from common import HERE, ROOT, Folder, environment, files, made, older, reader, samples, unittest
 from samples import Rows
 from test_picture import VALUES, check_picture, pixels
 from yasgulet import BadFile, Refused
@@ -179,6 +181,12 @@ class Steps(unittest.TestCase):
                 one = account(reader(), [data], plan, tariff)
                 self.assertEqual((one.step, one.unit), (STEPS[moment][0] / Fraction(scale), {"ACCUM": "mm", "RATE": "mm/h"}[moment]))
                 self.assertAlmostEqual(float(one.step) / reader().with_gaps(data).step, 1, 6)
+        for scale in (0.0, float("inf"), float("nan")):
+            with self.assertRaises(Refused) as caught:
+                account(reader(), [orchard.rate_file([[1]], scale=samples.floats(scale, 0.0, 65535, 1, 0))], plan, tariff)
+            self.assertEqual(caught.exception.number, 7)
+        below = orchard.rate_file([[1]], scale=samples.floats(-1000.0, 0.0, 65535, 1, 0))
+        self.assertEqual(account(reader(), [below], plan, tariff).step, Fraction(-254, 10000))
         inch = Fraction(254, 10)
         self.assertEqual((STEPS["ACCUM"][0], STEPS["RATE"][0]), (inch / 100, inch))
 
@@ -198,12 +206,32 @@ class Refusals(unittest.TestCase):
                              "10 SchemeMismatch (no rain product: the scheme of product code %d is %s)" % (reader().open(made(name).data).code, scheme))
 
     def test_strip_outside(self):
-        for rows, picture in (([[1, 2]], "this one has 1 radials of 2 bins"), ([[1], [2]], "this one has 2 radials of 1 bins"), ([], "a clear scan has no cells")):
+        for rows, picture in (([[1, 2]], "this one has 1 radials of 2 bins"), ([[1], [2]], "this one has 2 radials of 1 bins"),
+                              ([], "a clear scan has no cells")):
             error = self.refusal(rain_file(rows, samples.floats(2.0, 0.0, 255, 1, 1), packed=False))
             self.assertEqual(str(error), "block:4: 39 StripOutside (a strip of the plan leaves the picture): " + picture)
         account(reader(), [rain_file([[1, 2]] * 2, samples.floats(2.0, 0.0, 255, 1, 1))], self.plan, self.tariff)
         clear = account(reader(), [rain_file([], samples.floats(2.0, 0.0, 255, 1, 1))], parse_plan("field 4"), self.tariff)
         self.assertEqual(figures(clear), [Figures(0, 0, 0)])
+
+    def test_no_files(self):
+        with self.assertRaisesRegex(ValueError, "^no files: a product is received at least once$"):
+            account(reader(), [], self.plan, self.tariff)
+
+    def test_one_file_that_is_no_list(self):
+        """A byte of it would else be taken for an open file: 1 is standard output."""
+        data = rain_file([[1, 2]] * 2, samples.floats(2.0, 0.0, 255, 1, 1), framed=True)
+        for one in ("DPRLOT", data, bytearray(data), memoryview(data), Path("DPRLOT"), reader().open(data)):
+            with self.assertRaisesRegex(TypeError, "^the files of a product are a list$"):
+                account(reader(), one, self.plan, self.tariff)
+        os.fstat(1)
+
+    def test_plan_that_was_not_checked(self):
+        """The picture is to do with 39 alone."""
+        data = rain_file([[1, 2]] * 2, samples.floats(2.0, 0.0, 255, 1, 1))
+        for text, said in (("\nstrip 0 0 1 1", "block:2: 37 PlanMalformed (a record of the field plan is malformed)"),
+                           ("field 1\nfield 1", "block:2: 38 FieldRepeated (a field is named twice in the plan)")):
+            self.assertEqual(str(self.refusal(data, plan=parse_plan(text, "block"))), said)
 
     def test_receptions_that_are_not_alike(self):
         first, other = [[1, 2], [3, 4], [5, 6]], [[1, 2], [3, 4], [5, 7]]
@@ -275,7 +303,8 @@ class Book(Folder):
             want = [self.expected(k, field) for k in range(3)]
             self.assertEqual(lines[6 + field], dict(EMPTY, line="sum", field="94"[field], total=str(sum(w.total for w in want)), unit="mm/h",
                                                     weighted_rain=decimal(sum(w.total for w in want) * Fraction(254, 10000)),
-                                                    cents=str(sum(w.cents for w in want)), remainder=str(sum(w.remainder for w in want)), products="3", missing="0"))
+                                                    cents=str(sum(w.cents for w in want)), remainder=str(sum(w.remainder for w in want)),
+                                                    products="3", missing="0"))
         # each charge is rounded down by itself: the sum is not the charge of the sum
         self.assertNotEqual(sum(self.expected(k, 0).cents for k in range(3)),
                             charge(sum(self.expected(k, 0).total for k in range(3)), parse_tariff(self.get("tariff").decode())[0])[0])
@@ -283,18 +312,31 @@ class Book(Folder):
     def test_gap_and_partial_sum(self):
         self.three(((), (1,), ()))
         plain, err = self.account("a", "b", "c")
-        self.assertEqual(err, "3 files, 0 bad\n")
+        self.assertEqual(err, "note: no sum because of gaps: field 4 (1 product, radial 1)\n3 files, 0 bad\n")
         self.assertEqual(plain[3], dict(EMPTY, line="gap", date="2026-05-20", time="01:06:00", site="LOT", product="DPR", code="176", receptions="1", field="4",
                                         products="0", missing="1", gap_radials="1"))
         self.assertEqual((plain[2]["line"], plain[2]["total"]), ("field", str(self.expected(1, 0).total)))
         self.assertEqual((plain[6]["line"], plain[6]["products"]), ("sum", "3"))
         self.assertEqual(plain[7], dict(EMPTY, line="none", field="4", products="2", missing="1"))
-        partial, _ = self.account("a", "b", "c", "--partial")
+        partial, err = self.account("a", "b", "c", "--partial")
+        self.assertEqual(err, "3 files, 0 bad\n")
         self.assertEqual(partial[:7], plain[:7])
         rest = [self.expected(k, 1) for k in (0, 2)]
         self.assertEqual(partial[7], dict(EMPTY, line="partial", field="4", total=str(sum(w.total for w in rest)), unit="mm/h",
                                           weighted_rain=decimal(sum(w.total for w in rest) * Fraction(254, 10000)), cents=str(sum(w.cents for w in rest)),
                                           remainder=str(sum(w.remainder for w in rest)), products="2", missing="1"))
+
+    def test_gaps_are_noted(self):
+        """Fields, products and radials; where --partial has no sum either."""
+        self.put("plan", b"field 9\nstrip 0 0 3 2\nstrip 1 0 1 1\nfield 4\nstrip 1 1 2 1\nfield 5\n")
+        self.three(((0,), (1,), ()))
+        lines, err = self.account("a", "b", "c")
+        self.assertEqual(err, "note: no sum because of gaps: field 9 (2 products, radials 0 1), field 4 (1 product, radial 1)\n3 files, 0 bad\n")
+        self.assertEqual([(line["line"], line["field"]) for line in lines[9:]], [("none", "9"), ("none", "4"), ("sum", "5")])
+        lines, err = self.account("b", "c", "--partial")
+        self.assertEqual(err, "note: no sum because of gaps: field 9 (2 products, radials 0 1)\n2 files, 0 bad\n")
+        self.assertEqual([line["line"] for line in lines[6:]], ["none", "partial", "sum"])
+        self.assertEqual(self.account("b")[1], "note: no sum because of gaps: field 9 (1 product, radial 1), field 4 (1 product, radial 1)\n")
 
     def test_received_twice(self):
         self.three(((), (0, 1), ()))
@@ -314,7 +356,8 @@ class Book(Folder):
         self.three()
         self.scan("second", 3960, self.ROWS[0])
         lines, err = self.account("a", "b", "c", "second", status=1)
-        self.assertEqual(err, "b and second: 44 RowsDisagree (the two bodies have this radial whole and not alike): radial 0\n4 files, 1 bad\n")
+        self.assertEqual(err, "b and second: 44 RowsDisagree (the two bodies have this radial whole and not alike): radial 0\n"
+                              "4 files, 0 bad; 1 product not merged\n")
         self.assertEqual([(line["line"], line["products"], line["missing"]) for line in lines[4:]], [("none", "2", "1")] * 2)
         self.assertEqual([line["time"] for line in lines[:4]], ["01:00:00"] * 2 + ["01:12:00"] * 2)
 
@@ -341,6 +384,44 @@ class Book(Folder):
         lines, _ = self.account("N0RLOT", "--partial", status=1)
         self.assertEqual([(line["line"], line["total"], line["cents"], line["products"]) for line in lines], [("none", "", "", "0")] * 2)
 
+    def test_bad_reception_of_a_product_that_is_there(self):
+        """A body that can't be had leaves the head: the product is known, and is missing once or not at all."""
+        self.three()
+        whole = self.get("b")
+        start = whole.index(b"BZh")
+        block = start - 102
+
+        def head(at: int, data: bytes) -> bytes:
+            return whole[:block + at] + data + whole[block + at + len(data):]
+        bad = {"cut": whole[:start + 20], "damaged": whole[:start + 4] + b"xxxx" + whole[start + 8:], "no stream": whole[:start], "short": whole[:start - 4],
+               "large": whole[:start] + bz2.compress(bytes((32 << 20) + 1)), "trailing": whole + b"and more", "place": head(2, b"\x7f\xff"),
+               "offset": head(90, b"\0\0\0\1")}
+        for name, data in bad.items():
+            self.put(name, data)
+            with self.assertRaises((BadFile, Refused), msg=name):
+                reader().with_gaps(data)
+        for jobs in ("1", "2"):
+            lines, err = self.account("a", "b", "c", *bad, "--jobs", jobs, status=1)
+            self.assertEqual(err.splitlines()[-1], "11 files, 8 bad")
+            self.assertEqual([(line["line"], line["products"], line["missing"]) for line in lines[6:]], [("sum", "3", "0")] * 2)
+        for some in (list(bad), ["cut"], ["damaged", "large"]):
+            lines, _ = self.account("a", "c", *some, status=1)
+            self.assertEqual([(line["line"], line["products"], line["missing"]) for line in lines[4:]], [("none", "2", "1")] * 2)
+        # with two product codes in its head a file may be of any product
+        self.put("odd", head(12, b"\0\xaa"))
+        self.assertEqual([line["missing"] for line in self.account("a", "b", "c", "odd", status=1)[0][6:]], ["1"] * 2)
+
+    def test_no_rain_whose_body_can_t_be_had(self):
+        self.three()
+        whole = files()["N0RLOT.gaps"]
+        start = whole.index(b"BZh")
+        self.put("N0R.cut", whole[:start + 50])
+        self.put("N0R.large", whole[:start] + bz2.compress(bytes((32 << 20) + 1)))
+        lines, err = self.account("a", "b", "c", "N0R.cut", "N0R.large", status=1)
+        said = ": 10 SchemeMismatch (no rain product: the scheme of product code 19 is legacy)\n"
+        self.assertEqual(err, "N0R.cut" + said + "N0R.large" + said + "5 files, 2 bad\n")
+        self.assertEqual([(line["line"], line["missing"]) for line in lines[6:]], [("sum", "0")] * 2)
+
     def test_strip_outside_one_product(self):
         self.three()
         self.scan("small", 60, [[1, 2, 3]])
@@ -354,27 +435,59 @@ class Book(Folder):
         self.scan("b", 120, [[2] * 300])
         lines, err = self.account("a", "b", status=1)
         total = 300 * 65535 * 65534
-        self.assertEqual(err, "a: field 9: 41 TotalTooLarge (the total is above 2^40): %d\n2 files, 1 bad\n" % total)
-        self.assertEqual(lines[0], dict(lines[0], line="too large", total=str(total), weighted_rain=decimal(total * Fraction(254, 10000)), cents="", remainder="",
+        self.assertEqual(err, "a: field 9: 41 TotalTooLarge (the total is above 2^40): %d\n2 files, 0 bad; 1 total without a charge\n" % total)
+        self.assertEqual(lines[0], dict(lines[0], line="too large", total=str(total), weighted_rain=decimal(total * Fraction(254, 10000)),
+                                        cents="", remainder="",
                                         products="0", missing="1"))
         tariff = parse_tariff(self.get("tariff").decode())[0]
         cents = charge(65534, tariff)[0] + charge(1, tariff)[0]
         self.assertEqual([(line["line"], line["total"], line["cents"]) for line in lines[4:]], [("none", "", ""), ("sum", "65535", str(cents))])
+        self.scan("c", 180, [[65535] * 300])
+        self.put("d", b"")
+        self.scan("e", 120, [[3] * 300])
+        err = self.account("a", "b", "c", "d", "e", status=1)[1]
+        self.assertEqual(err.splitlines()[-1], "5 files, 1 bad; 1 product not merged; 2 totals without a charge")
 
     def test_products_of_different_steps(self):
         self.put("a", rain_file([[11, 12, 13]] * 2, samples.floats(2.0, 0.0, 255, 1, 1), seconds=60))
         self.put("b", rain_file([[21, 22, 23]] * 2, samples.floats(10.0, 0.0, 255, 1, 1), seconds=120))
         lines, err = self.account("a", "b")
-        self.assertIn("note: the products' units differ in size: there is no sum of totals\n", err)
-        self.assertEqual((lines[4]["total"], lines[4]["weighted_rain"], lines[4]["unit"]), ("", decimal(66 * Fraction(127, 1000) + 126 * Fraction(254, 10000)), "mm"))
+        self.assertIn("note: the products' steps differ: their totals are not added\n", err)
+        self.assertEqual((lines[4]["total"], lines[4]["weighted_rain"], lines[4]["unit"]),
+                         ("", decimal(66 * Fraction(127, 1000) + 126 * Fraction(254, 10000)), "mm"))
         self.scan("c", 180, [[1, 2, 3]] * 2)
         lines, err = self.account("a", "b", "c")
-        self.assertEqual([(line["line"], line["total"], line["weighted_rain"], line["unit"], line["products"]) for line in lines[6:]], [("sum", "", "", "", "3")] * 2)
+        self.assertEqual([(line["line"], line["total"], line["weighted_rain"], line["unit"], line["products"]) for line in lines[6:]],
+                         [("sum", "", "", "", "3")] * 2)
         self.assertIn("note: products of 2 grids by one plan: 2 by 3 of 1000 m, 2 by 3 of 250 m\n", err)
         self.put("d", rain_file([[11, 12, 15]] * 2, samples.floats(3.0, 0.0, 255, 1, 1), seconds=60, site="ILX"))
         lines, err = self.account("d")
         self.assertEqual([(line["total"], line["weighted_rain"], line["unit"]) for line in lines], [("70", "", ""), ("25", "", "")] * 2)
         self.assertIn("note: products of 2 sites by one plan: ILX, LOT\n", self.account("a", "d")[1])
+
+    def test_scale_below_0(self):
+        """Totals and charges go by codes and stay; rain below nothing is none."""
+        self.three()
+        self.scan("d", 4680, self.ROWS[0], scale=samples.floats(-1000.0, 0.0, 65535, 1, 0))
+        self.scan("e", 4680, self.ROWS[0], scale=samples.floats(-1000.0, 0.0, 65535, 1, 0))
+        self.scan("f", 5040, self.ROWS[1], scale=samples.floats(-1000.0, 0.0, 65535, 1, 0))
+        note = "note: no weighted rain, the declared scale is below 0: "
+        lines, err = self.account("d", "f")
+        self.assertEqual(err, note + "d, f\n2 files, 0 bad\n")
+        for field in range(2):
+            want = [self.expected(k, field) for k in range(2)]
+            for k in range(2):
+                line = lines[2 * k + field]
+                self.assertEqual((line["line"], line["total"], line["weighted_rain"], line["unit"], line["cents"], line["remainder"]),
+                                 ("field", str(want[k].total), "", "", str(want[k].cents), str(want[k].remainder)))
+            self.assertEqual(lines[4 + field], dict(EMPTY, line="sum", field="94"[field], total=str(sum(w.total for w in want)),
+                                                    cents=str(sum(w.cents for w in want)), remainder=str(sum(w.remainder for w in want)),
+                                                    products="2", missing="0"))
+        lines, err = self.account("a", "d", "e")
+        self.assertEqual(err, "note: the products' steps differ: their totals are not added\n%sd and e\n3 files, 0 bad\n" % note)
+        self.assertEqual([(line["line"], line["total"], line["weighted_rain"], line["unit"], line["products"]) for line in lines[4:]],
+                         [("sum", "", "", "", "2")] * 2)
+        self.assertTrue(lines[0]["weighted_rain"])
 
     def test_progress(self):
         self.three()
@@ -386,7 +499,7 @@ class Book(Folder):
         told = os.read(ours, 10_000).decode()
         os.close(ours)
         self.assertEqual((status, len(self.table(out))), (1, 8))
-        for words in ("1 of 5 files\r", "d: the file is empty\r\n", "5 of 5 files, 1 bad\r\n", "1 of 1 products received more than once, 1 bad\r\n"):
+        for words in ("1 of 5 files\r", "d: the file is empty\r\n", "5 of 5 files, 1 bad\r\n", "1 of 1 products received more than once\r\n"):
             self.assertIn(words, told)
 
     def test_older_library(self):
@@ -397,9 +510,13 @@ class Book(Folder):
                 self.assertEqual((status, out, err), (2, "", "yasgulet: %s has no l3_plan_totals: a newer library is needed\n" % library.path))
 
     def test_plan_of_no_fields(self):
-        self.put("plan", b"# none yet\n")
         self.three()
-        self.assertEqual(self.account("a", "b")[0], [])
+        for data in (b"# none yet\n", b""):
+            self.put("plan", data)
+            self.assertEqual(self.run_it("account", "plan", "tariff", "a", "b", "--out", "book.csv"), (2, "", "yasgulet: plan: no fields\n"))
+        self.assertFalse(os.path.exists(self.path("book.csv")))
+        none = account(reader(), [self.path("a")], read_plan(reader(), self.path("plan")), read_tariff(reader(), self.path("tariff")))
+        self.assertEqual(none.fields, ())  # the call has an answer
 
     def test_plan_or_tariff_that_can_t_be_taken(self):
         self.three()

@@ -3,6 +3,7 @@ import os
 import pty
 import re
 import signal
+import struct
 import subprocess
 import sys
 import time
@@ -196,12 +197,65 @@ class Commands(Folder):
         self.run_it("png", "N0RLOT")
         self.run_it("csv", "N0RLOT")
         self.assertEqual((self.get("m.png"), self.get("m.csv")), (self.get("N0RLOT.png"), self.get("N0RLOT.csv")))
-        for pair, said in ((("N0RLOT.gaps", "N0VLOT"), "N0RLOT.gaps and N0VLOT: the two files are not receptions of one product"),
+        for name, product, site in (("tilt", "N1R", "LOT"), ("site", "N0R", "LOX")):  # alike but for the name
+            self.put(name, files()["N0RLOT.second"].replace(b"N0RLOT", (product + site).encode()))
+        for pair, said in ((("N0RLOT.gaps", "N0VLOT"), "N0RLOT.gaps and N0VLOT: the two files are not receptions of one product: N0R LOT and N0V LOT"),
+                           (("N0RLOT.gaps", "tilt"), "the two files are not receptions of one product: N0R LOT and N1R LOT"),
+                           (("N0RLOT.gaps", "site"), "the two files are not receptions of one product: N0R LOT and N0R LOX"),
                            (("N0RLOT.gaps", "none"), "none: No such file")):
             status, _, err = self.run_it("merge", *pair, "-o", "no.png")
             self.assertEqual(status, 1)
             self.assertIn(said, err)
         self.assertFalse(os.path.exists(self.path("no.png")))
+
+    def test_plan_in_the_picture(self):
+        os.mkdir(self.path("in"))
+        for name in ("a", "b"):
+            self.put("in/" + name, files()["N0QLOT.small"])
+        self.put("in/block.plan", b"field 1\nstrip 2 3 4 5\n")
+        self.put("wrong.plan", b"field 1\nstrip 2 3 0 5\n")
+        self.assertEqual(self.run_it("png", "in", "-o", "out", "--plan", "in/block.plan", "--jobs", "2")[::2], (0, "2 files, 0 bad\n"))
+        self.run_it("png", "in/a", "-o", "plain.png")
+        self.run_it("merge", "in/a", "in/b", "-o", "merged.png", "--plan", "in/block.plan")
+        self.assertEqual(sorted(os.listdir(self.path("out"))), ["a.png", "b.png"])
+        self.assertEqual(len({self.get(name) for name in ("out/a.png", "out/b.png", "merged.png")}), 1)
+        self.assertNotEqual(self.get("out/a.png"), self.get("plain.png"))
+        for words, said in ((("png", "in/a", "--plan", "wrong.plan"), "wrong.plan:2: 37 PlanMalformed"), (("png", "in/a", "--plan", "none"), "none"),
+                            (("png", "in/a", "--plan", "in/block.plan", "-o", "in/block.plan"), "in/block.plan"),
+                            (("merge", "in/a", "in/b", "--plan", "in/block.plan", "-o", "in/block.plan"), "in/block.plan")):
+            status, _, err = self.run_it(*words)
+            self.assertEqual(status, 2, err)
+            self.assertIn(said, err)
+
+    def test_pipes(self):
+        """What can be read but once is read once."""
+        self.samples("N0RLOT.gaps", "N0RLOT.second")
+        for words in (("merge", "-o", "%s.png"), ("merge", "--csv", "%s.csv")):
+            expected = self.run_it(*words[:2], words[2] % "files", "N0RLOT.gaps", "N0RLOT.second")
+            ends = []
+            for name in ("N0RLOT.gaps", "N0RLOT.second"):
+                ours, its = os.pipe()
+                os.write(its, files()[name])
+                os.close(its)
+                ends.append(ours)
+            status, out, err = self.run_it(*words[:2], words[2] % "pipes", *("/dev/fd/%d" % end for end in ends), pass_fds=ends)
+            self.assertEqual((status, err), (0, ""))
+            for end in ends:
+                os.close(end)
+            self.assertEqual(out.splitlines()[1:-1], expected[1].splitlines()[1:-1])
+            self.assertEqual(self.get(words[2] % "pipes"), self.get(words[2] % "files"))
+
+    def test_export_tells_what_it_leaves_out(self):
+        tabular = struct.pack(">hhi", -1, 3, 8 + 20) + bytes(20)
+        body = samples.body_of(files()["N0RLOT.small"])
+        for packed in (False, True):
+            self.put("N0R", samples.product_file("N0R", 19, samples.thresholds(samples.LEGACY_DBZ), body + tabular, packed))
+            status, out, err = self.run_it("export", "N0R")
+            self.assertEqual((status, out), (0, "wrote N0R.packet16\n"))
+            self.assertEqual(err, "N0R: note: left out: 28 bytes of graphic and tabular blocks after the symbology\n")
+            self.assertEqual(self.run_it("export", "--body", "N0R", "-o", "body"), (0, "wrote body\n", ""))
+            status, out, err = self.run_it("export", "N0R", "N0R", "-o", "out" + os.sep)
+            self.assertEqual((status, err.count("left out: 28 bytes")), (0, 1))
 
     def test_export(self):
         self.samples("N0RLOT", "N0VLOT", "N0QLOT")

@@ -60,7 +60,8 @@ class Plans(unittest.TestCase):
                                   ("field 65536", 1, "number 65536 is not from 0 to 65535"), ("field -1", 1, "number '-1' is no whole number"),
                                   ("field 1\n\nstrip 1 2 3", 3, "strip takes 4 numbers: RADIAL GATE GATES WEIGHT"),
                                   ("field 1\nstrip 1 2 3 4 5", 2, "strip takes 4 numbers"), ("field 1\nstrip 1 2 3 1e2", 2, "weight '1e2' is no whole number"),
-                                  ("field 1\nstrip 1 2 3 70000", 2, "weight 70000 is not from 0 to 65535"), ("# a\x0c\u2028b\nfield 1_0", 2, "'1_0'"), ("field \u0663", 1, "no whole number"),
+                                  ("field 1\nstrip 1 2 3 70000", 2, "weight 70000 is not from 0 to 65535"),
+                                  ("# a\x0c\u2028b\nfield 1_0", 2, "'1_0'"), ("field \u0663", 1, "no whole number"),
                                   ("field 1\nstrip %s 2 3 4" % ("9" * 5000), 2, "is not from 0 to 65535")):
             with self.assertRaises(BadForm) as caught:
                 parse_plan(text, "block")
@@ -139,7 +140,8 @@ class Tariffs(unittest.TestCase):
         self.assertEqual(tariff_text(Tariff("t", (5, LAST), (1, 2))), "upto 5 1\nupto rest 2\n")
 
     def test_what_is_no_tariff(self):
-        for text, line, words in (("up 1 2", 1, "'up' is not upto"), ("upto 1", 1, "upto takes 2 numbers: END RATE"), ("upto rest 1 2", 1, "upto takes 2 numbers"),
+        for text, line, words in (("up 1 2", 1, "'up' is not upto"), ("upto 1", 1, "upto takes 2 numbers: END RATE"),
+                                  ("upto rest 1 2", 1, "upto takes 2 numbers"),
                                   ("upto x 2", 1, "end 'x' is no whole number"), ("upto 1 2.5", 1, "rate '2.5' is no whole number"),
                                   ("upto 18446744073709551616 2", 1, "end 18446744073709551616 is not from 0 to 18446744073709551615"),
                                   ("upto rest 2\nupto 2199023255552 3", 1, "the rest is for the last band")):
@@ -153,7 +155,8 @@ class Tariffs(unittest.TestCase):
         for text, line, why in (("", None, "no bands"), ("upto 10 1", 1, "the last end 10 is below 1099511627776: write 'rest'"),
                                 ("upto 10 1\nupto 10 2\nupto rest 3", 2, "the end 10 is not above the one before it, 10"),
                                 ("upto 10 1\n\nupto 9 2\nupto rest 3", 3, "the end 9 is not above the one before it, 10"),
-                                ("upto 10 65536\nupto rest 3", 1, "the rate 65536 is above 65535"), (bands + "upto 8 1\nupto rest 1", 9, "a band beyond the 8th"),
+                                ("upto 10 65536\nupto rest 3", 1, "the rate 65536 is above 65535"),
+                                (bands + "upto 8 1\nupto rest 1", 9, "a band beyond the 8th"),
                                 ("upto 1099511627775 1", 1, "the last end 1099511627775 is below 1099511627776: write 'rest'")):
             with self.assertRaises(BadForm) as caught:
                 check_tariff(reader(), *parse_tariff(text, "rates"))
@@ -216,13 +219,17 @@ class Files(Folder):
         self.assertEqual((self.get("bytes"), self.get("bytes2")), (records, records))
         self.assertEqual(self.get("again"), b"field 7\nstrip 1 2 3 4\nfield 65535\n")
         self.assertEqual(self.run_it("plan", "bytes", "-o", "-", clock=False)[1], "field 7\nstrip 1 2 3 4\nfield 65535\n")
+        self.put("none", b"# no fields yet\n")
+        for source, target in (("none", "no records"), ("no records", "none again")):
+            self.assertEqual(self.run_it("plan", source, "-o", target, clock=False), (0, "wrote %s\n" % target, ""))
+            self.assertEqual(self.get(target), b"")
         self.put("bad", b"field 7\nstrip 1 2 0 4")
         for words, said in ((("bad", "-o", "x"), "bad:2: 37 PlanMalformed"), (("text", "-o", "./text"), "./text would be written"), (("text",), "--out")):
             status, _, err = self.run_it("plan", *words, clock=False)
             self.assertEqual(status, 2)
             self.assertIn(said, err)
         self.assertEqual(self.run_it("plan", "text", "-o", "no/such", clock=False)[::2], (1, "no/such: No such file or directory\n"))
-        self.assertEqual(sorted(os.listdir(self.folder)), ["again", "bad", "bytes", "bytes2", "text"])
+        self.assertEqual(sorted(os.listdir(self.folder)), ["again", "bad", "bytes", "bytes2", "no records", "none", "none again", "text"])
 
 
 if __name__ == "__main__":

@@ -10,6 +10,7 @@ import os
 import struct
 import sys
 import zlib
+from functools import lru_cache
 from typing import Callable, Dict, List, Optional, Sequence, Tuple
 
 from common import HERE, Folder, files, made, read, reader, samples, unittest, yasgulet
@@ -18,6 +19,7 @@ from yasgulet import picture
 from yasgulet.canvas import Canvas
 from yasgulet.colours import SCALES, scale_for
 from yasgulet.font import HEIGHT, LETTERS, WIDTH
+from yasgulet.forms import parse_plan
 
 STORED = os.path.join(HERE, "pictures")
 NAMES = ("N0RLOT.gaps", "N0VLOT", "N1PLOT", "N0QLOT", "N0QLOT.clear", "N0ULOT", "N0XLOT", "N0CLOT", "N0KLOT", "N0HLOT", "DAALOT", "DPRLOT", "HHCLOT")
@@ -59,13 +61,13 @@ def check_picture(test: unittest.TestCase, shown: Tuple[int, int, bytes], rows: 
     """Holds a picture to the rows that its product was made of. gate is in km, reach in m.
 
     Every third pixel of every third line is looked at: the cell at its middle, by azimuth and range, or one that is within a twentieth of a
-    degree and 1 m of it, must have the pixel's colour. Pixels of rings, rays and letters are passed over; they are few.
+    degree and 1 m of it, must have the pixel's colour. Pixels of rings, rays, letters and a plan are passed over; they are few.
     """
     width, height, colours = shown
     test.assertEqual((width, height), (size, size))
     half = (size - 72) // 2
     scale = SCALES[moment]
-    over = {bytes(picture._FIXED[colour]) for colour in (picture.RING, picture.TEXT)}
+    over = {bytes(picture._FIXED[colour]) for colour in (picture.RING, picture.TEXT, picture.PLAN)}
     hatch = {bytes(picture._FIXED[colour]) for colour in (picture.GAP, picture.GAP_LINE)}
     plain = {bytes(picture._FIXED[colour]) for colour in picture._REASONS.values()}
     looked = passed = coloured = 0
@@ -158,6 +160,47 @@ class Drawn(Folder):
         canvas = picture.draw(sweep, size=400, reach=100_000.0, rings=False)
         x, y = self.centre(canvas, *samples.STORMS[0][:2], 100)
         self.assertGreaterEqual(canvas.pixels[y * 400 + x], picture.FIRST)
+
+    def test_fields_of_a_plan_are_outlined(self):
+        """A pixel is the outline's if it lies in a field and one beside it does not; where a twentieth of a degree or 1 m decides, it may be."""
+        plan = parse_plan("field 7\nstrip 52 60 6 1\nstrip 53 60 6 1\nstrip 54 62 3 1\n"
+                          "field 8\nstrip 55 58 9 1\nstrip 56 58 9 1\nstrip 359 20 30 2\nstrip 0 20 30 2\nstrip 1 20 30 2\n"
+                          "field 9\nfield 10\nstrip 180 0 90 1\nstrip 181 0 90 1\nstrip 182 0 90 1\n")
+        fields = {(strip.radial, gate): field.number for field in plan.fields for strip in field.strips for gate in range(strip.gate, strip.gate + strip.gates)}
+        sweep, size, reach = read("DPRLOT"), 400, 80_000.0
+        half = (size - 72) // 2
+        plain, outlined = (picture.draw(sweep, size=size, reach=reach, plan=one) for one in (None, plan))
+
+        @lru_cache(maxsize=None)
+        def owners(x: int, y: int) -> frozenset:
+            if not (0 <= x < 2 * half and 0 <= y < 2 * half):
+                return frozenset((None,))
+            east, north = (x + .5 - half) * reach / half, (half - y - .5) * reach / half
+            azimuth, distance = math.degrees(math.atan2(east, north)), math.hypot(east, north)
+            return frozenset(fields.get((math.floor((azimuth + turn) % 360), math.floor((distance + move) / 1000)))
+                             for turn, move in ((0, 0), (.05, 0), (-.05, 0), (0, 1), (0, -1)))
+
+        drawn = dict.fromkeys((7, 8, 10), 0)
+        for y in range(2 * half):
+            for x in range(2 * half):
+                place = (40 + y) * size + x
+                mine, beside = owners(x, y), [owners(x + right, y + down) for right, down in ((1, 0), (-1, 0), (0, 1), (0, -1))]
+                if outlined.pixels[place] == picture.PLAN:
+                    self.assertTrue(mine - {None} and any(one | mine != {number} for one in beside for number in mine), (x, y))
+                    drawn[next(iter(mine - {None}))] += 1
+                else:
+                    self.assertEqual(outlined.pixels[place], plain.pixels[place])
+                    self.assertTrue(None in mine or len(mine) > 1 or all(one & mine for one in beside), (x, y))
+        self.assertGreater(min(drawn.values()), 20)
+
+    def test_plans_that_leave_the_picture(self):
+        for name, text, words in (("DPRLOT", "field 3\nstrip 360 0 1 1", "field 3 of plan has a strip outside the picture: radial 360, gate 0, gates 1"),
+                                  ("DPRLOT", "field 3\nstrip 0 239 2 1", "radial 0, gate 239, gates 2"),
+                                  ("N0QLOT.clear", "field 3\nstrip 0 0 1 1", "clear scan")):
+            with self.assertRaises(yasgulet.Level3Error) as caught:
+                picture.draw(read(name), plan=parse_plan(text))
+            self.assertIn(words, str(caught.exception))
+        picture.draw(read("N0QLOT.clear"), size=240, plan=parse_plan("field 3"))
 
     def test_sizes_and_bad_options(self):
         sweep = reader().sweep(files()["N0QLOT.small"], gate=1000)

@@ -5,9 +5,10 @@ import random
 import resource
 import struct
 import time
+from unittest import mock
 
 from common import CLOCK, Folder, files, reader, samples, unittest, yasgulet
-from yasgulet import product_file
+from yasgulet import bzip2, product_file
 
 
 class Parts(unittest.TestCase):
@@ -121,12 +122,13 @@ class Hostile(Folder):
             self.assertIn("halfwords", self.bad(data[:block + 90] + struct.pack(">i", offset) + data[block + 94:], yasgulet.BadFile))
         self.assertIn("product code", self.bad(data[:block + 12] + b"\x00\x99" + data[block + 14:], yasgulet.BadFile))
         self.assertIn("earth", self.bad(data[:block + 2] + struct.pack(">i", 90_001) + data[block + 6:], yasgulet.BadFile))
-        for length in (-1, 0, 7, 8, 1 << 30, -(1 << 31)):  # the block's own length
-            body = data[block + 102:]
-            try:
-                reader().sweep(data[:block + 102] + body[:4] + struct.pack(">i", length) + body[8:])
-            except yasgulet.Level3Error as error:
-                self.assertTrue(str(error))
+        whole, body = reader().sweep(data), data[block + 102:]
+        for length in (-1, 0, 7, len(body) + 1, 1 << 30, -(1 << 31)):  # the block's own length, which is not followed: no block is so long
+            sweep = reader().sweep(data[:block + 102] + body[:4] + struct.pack(">i", length) + body[8:])
+            self.assertEqual((sweep.radials, sweep.bins, bytes(sweep._codes), bytes(sweep._values), bytes(sweep._azimuths)),
+                             (whole.radials, whole.bins, bytes(whole._codes), bytes(whole._values), bytes(whole._azimuths)))
+        for length in (8, 30, len(body) - 1):  # a shorter block: the rest is taken for what stands after it
+            self.bad(data[:block + 102] + body[:4] + struct.pack(">i", length) + body[8:], yasgulet.Refused)
 
     def test_counts_beyond_the_body(self):
         for radials, bins in ((65535, 61), (2000, 2000), (65535, 65535), (1, 65535), (0, 0), (4, 0)):
@@ -135,6 +137,38 @@ class Hostile(Folder):
                 began = time.perf_counter()
                 self.bad(samples.product_file("N0Q", 94, samples.halfword(-320, 5), body))
                 self.assertLess(time.perf_counter() - began, 5)
+
+    def test_stream_at_once_and_by_the_module_are_alike(self):
+        """libbz2's own calls, where they can be made, and Python's module: the same bytes and the same refusals."""
+        def outcome(data, start, cap):
+            try:
+                return bzip2.unpack(data, start, cap)
+            except yasgulet.BadFile as error:
+                return str(error)
+
+        if bzip2._calls() is None:
+            self.skipTest("this Python's libbz2 can't be called")
+        chance = random.Random(4)
+        body = samples.body_of(files()["N0QLOT"])
+        tabular = struct.pack(">hhi", -1, 3, 100_000) + chance.randbytes(99_992)
+        insides = [body, body + tabular, body[:-1], body + b"x", body[:8], body[:9], body[:7], b"", bytes(100_000)]
+        insides += [body[:4] + struct.pack(">i", length) + body[8:] for length in (-1, 0, 7, 8, 9, len(body) - 1, len(body) + 1, 1 << 30, -1 << 31)]
+        cases = []
+        for inside in insides:
+            stream = bz2.compress(inside)
+            cases += [(b"123" + stream + b"tail", 3, cap) for cap in (len(inside) + 1, len(inside), max(0, len(inside) - 1), 1000)]
+            cases += [(stream[:length], 0, 1 << 22) for length in (3, 4, 14, len(stream) // 2, len(stream) - 1)]
+            for _ in range(20):
+                damaged = bytearray(stream)
+                damaged[chance.randrange(len(stream))] ^= 1 << chance.randrange(8)
+                cases.append((bytes(damaged), 0, 1 << 22))
+        at_once = 0
+        for case in cases:
+            given = outcome(*case)
+            at_once += bzip2._at_once(*case) is not None
+            with mock.patch.object(bzip2, "_calls", lambda: None):
+                self.assertEqual(outcome(*case), given)
+        self.assertGreaterEqual(at_once, 10)
 
     def test_pipe(self):
         ours, its = os.pipe()

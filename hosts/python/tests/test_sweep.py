@@ -8,10 +8,12 @@ import sys
 import tempfile
 import threading
 import warnings
+from typing import Dict
+from unittest import mock
 
 import facts
 from common import CLOCK, Library, default, environment, files, large, made, older, read, reader, samples, unittest, yasgulet
-from yasgulet import Reason, Scheme
+from yasgulet import Reason, Scheme, storage
 
 
 def single(x):
@@ -129,12 +131,6 @@ class Picture(unittest.TestCase):
         self.assertEqual(sweep.when.isoformat(), "2026-05-20T22:14:37+00:00")
         self.assertEqual(sweep.date, (2026, 5, 20))
 
-    def test_arrays(self):
-        sweep = read("N0QLOT.small")
-        self.assertEqual(tuple(sweep.values.shape), (6, 13))
-        self.assertEqual(int(sweep.codes[5, 3]), 15)
-        self.assertEqual(memoryview(sweep.codes).nbytes, 2 * 6 * 13)
-
     def test_without_numpy(self):
         with tempfile.TemporaryDirectory() as folder:
             with open(os.path.join(folder, "numpy.py"), "w") as file:
@@ -154,7 +150,15 @@ class Picture(unittest.TestCase):
             self.assertEqual((again.gap_radials, again.code_reasons, again.time), (sweep.gap_radials, sweep.code_reasons, sweep.time))
 
     def test_storage_is_lent_again_when_nobody_holds_it(self):
-        from yasgulet.storage import lend
+        for huge in (storage._HUGE, 1 << 40):  # with huge pages and without, with numpy where it is there and without
+            for modules in ({}, {"numpy": None}):
+                with mock.patch.object(storage, "_HUGE", huge), mock.patch.dict(sys.modules, modules):
+                    self.lent_again()
+
+    def lent_again(self):
+        """Storage that somebody still holds is not lent to another, whoever holds it and whatever it is of."""
+        lend = storage.lend
+        storage._pieces.clear()
         first = lend(1 << 20, "H")
         first[5] = 7
         second = lend(1 << 20, "H")
@@ -190,6 +194,45 @@ class Picture(unittest.TestCase):
         [t.start() for t in threads]
         [t.join() for t in threads]
         self.assertEqual(wrong, [])
+
+
+
+class Arrays(unittest.TestCase):
+    """Arrays as memoryviews and, where numpy is there, as numpy's: the same shapes and numbers, and nothing copied."""
+
+    def arrays(self, kind: str, forms: Dict[str, str]) -> None:
+        for name in ("N0QLOT.small", "N0RLOT.gaps", "DPRLOT", "N0QLOT.clear"):
+            sweep = read(name, gaps=True)
+            cells = (sweep.radials, sweep.bins)
+            for part, form, shape, under in (("azimuths", "d", cells[:1], sweep._azimuths), ("gaps", "B", cells[:1], sweep._marks),
+                                             ("codes", "H", cells, sweep._codes), ("values", "f", cells, sweep._values), ("reasons", "B", cells, None)):
+                with self.subTest(name + " " + part):
+                    array = getattr(sweep, part)
+                    self.assertIs(getattr(sweep, part), array)
+                    self.assertEqual((type(array).__name__, str(getattr(array, "dtype", None) or array.format)), (kind, forms[form]))
+                    if sweep.radials:
+                        self.assertEqual(tuple(array.shape), shape)
+                        last = tuple(n - 1 for n in shape)
+                        flat = memoryview(array).cast("B").cast(form)
+                        self.assertEqual(struct.pack(form, array[last]), struct.pack(form, flat[-1]))
+                    self.assertEqual(len(array), sweep.radials)
+                    if under is not None:
+                        self.assertEqual(bytes(array), bytes(under))
+                    if under is not None and len(under) and not under.readonly:
+                        under[len(under) - 1] = 3
+                        self.assertEqual(array[last], 3)
+        self.assertEqual(int(read("N0QLOT.small").codes[5, 3]), 15)
+
+    def test_memoryviews(self):
+        with mock.patch.dict(sys.modules, {"numpy": None}):
+            self.arrays("memoryview", {form: form for form in "dHfB"})
+
+    def test_numpy(self):
+        try:
+            import numpy  # noqa: F401
+        except ImportError:
+            self.skipTest("numpy is not installed, so its path was not run")
+        self.arrays("ndarray", {"d": "float64", "H": "uint16", "f": "float32", "B": "uint8"})
 
 
 class ProductTable(unittest.TestCase):

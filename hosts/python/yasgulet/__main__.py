@@ -14,6 +14,7 @@ from . import __version__, rainbook
 from .commands import Task, attempt, folder_files
 from .errors import Level3Error
 from .files import abandon
+from .forms import read_plan
 from .library import Library
 from .picture import LARGEST, SMALLEST
 from .products import parse_scheme
@@ -70,6 +71,7 @@ def parser() -> argparse.ArgumentParser:
     look.add_argument("--size", type=_number(int, SMALLEST, LARGEST), default=800, metavar="PIXELS", help="height and width of the picture (800)")
     look.add_argument("--range", dest="range_km", type=_number(float, 1, 2000), metavar="KM", help="the range at the edge, by default that of the last gate")
     look.add_argument("--no-rings", action="store_true", help="without range rings")
+    look.add_argument("--plan", dest="outlined", metavar="PLAN", help="a field plan, whose fields are outlined")
     commands.add_parser("show", parents=[many, one, gaps, common], help="head and figures")
     commands.add_parser("png", parents=[many, out, one, gaps, look, common], help="the polar picture")
     table = commands.add_parser("csv", parents=[many, out, one, gaps, common], help="the cells as a table")
@@ -88,20 +90,24 @@ ENDINGS = {"png": ".png", "csv": ".csv", "export": ".packet16"}
 NEEDS = {"check": "l3_strict", "merge": "l3_merge", "export": "l3_export16", "account": "l3_plan_totals", "plan": "l3_plan_totals"}
 
 
-def tasks(arguments: argparse.Namespace) -> List[Task]:
+def tasks(arguments: argparse.Namespace, reader: Reader) -> List[Task]:
     """One task for each file; ValueError for outputs that would overwrite each other or an input."""
     options = {name: value for name, value in vars(arguments).items() if name in ("scheme", "gate", "gaps", "size", "no_rings", "all", "body", "table")}
     reach = getattr(arguments, "range_km", None)
     options["reach"] = reach * 1000 if reach else None
+    outlined: Optional[str] = getattr(arguments, "outlined", None)
+    if outlined:
+        options["outlined"] = read_plan(reader, outlined)
+    plans = [os.path.realpath(outlined)] if outlined else []
     output = getattr(arguments, "output", None)
     if arguments.command == "merge":
         outputs = [path for path in (output, arguments.table) if path]
         places = [os.path.realpath(path) for path in outputs]
         for path, place in zip(outputs, places):
-            if place in map(os.path.realpath, arguments.files) or places.count(place) > 1:
+            if place in plans or place in map(os.path.realpath, arguments.files) or places.count(place) > 1:
                 raise ValueError("%s would be written, and is named for another file too" % path)
         return [Task("merge", list(arguments.files), output, options)]
-    files = folder_files(arguments.files)
+    files = [file for file in folder_files(arguments.files) if os.path.realpath(file) not in plans]  # it may stand in the products' folder
     if not files:
         raise ValueError("no files in %s" % ", ".join(arguments.files))
     ending = ENDINGS.get(arguments.command)
@@ -111,7 +117,7 @@ def tasks(arguments: argparse.Namespace) -> List[Task]:
     as_folder = output is not None and (not single or os.path.isdir(output) or output.endswith(os.sep))
     if as_folder:
         os.makedirs(output, exist_ok=True)
-    made: Dict[str, str] = {os.path.realpath(file): file for file in files}
+    made: Dict[str, str] = {os.path.realpath(file): file for file in [*files, *plans]}
     found = []
     for file in files:
         path = file + ending if output is None else os.path.join(output, os.path.basename(file) + ending) if as_folder else output
@@ -204,7 +210,7 @@ def main(words: Optional[List[str]] = None) -> int:
         if arguments.command in NEEDS:
             _reader.library.function(NEEDS[arguments.command])
         book = rainbook.begin(arguments, _reader) if arguments.command in rainbook.COMMANDS else None
-        todo = [] if book else tasks(arguments)
+        todo = [] if book else tasks(arguments, _reader)
     except (Level3Error, ValueError, OSError) as error:
         print("yasgulet: %s" % error, file=sys.stderr)
         return NOT_BEGUN

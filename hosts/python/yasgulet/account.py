@@ -1,12 +1,13 @@
 """What a rain product comes to: a total and a charge for each field of a plan. Nothing here is worked out in floating point."""
 from __future__ import annotations
 
+import os
 from fractions import Fraction
 from typing import Any, Dict, List, NamedTuple, Optional, Sequence, Tuple
 
 from .errors import REFUSALS, Level3Error, Refused
 from .forms import BadForm, Plan, Tariff
-from .product_file import ProductFile
+from .product_file import ProductFile, parse, parse_head, read_bytes
 from .products import Scheme
 from .reader import Charge, Reader, Source
 from .sweep import Sweep
@@ -39,7 +40,7 @@ class Account(NamedTuple):
     names: Tuple[str, ...]
     product: str
     date: Tuple[int, int, int]
-    #: What a step of one code is, and its unit; exact.
+    #: What a step of one code is, and its unit; exact. Below 0 where the declared scale is: totals then are no rain.
     step: Fraction
     unit: str
     radials: int
@@ -68,8 +69,10 @@ def need_rain(reader: Reader, file: ProductFile) -> None:
 def merged(reader: Reader, receptions: Sequence[ProductFile]) -> Sweep:
     """The receptions of one product as one sweep with gaps. A row is that of the first reception in which it is whole.
 
-    Any two receptions are held to each other, so that no row is taken that is whole and another one elsewhere.
+    Any two receptions are held to each other, so that no row is taken that is whole and another one elsewhere. ValueError for none.
     """
+    if not receptions:
+        raise ValueError("no files: a product is received at least once")
     if len(receptions) == 1:
         return reader.with_gaps(receptions[0])
     sweep = reader.merge(receptions[0], receptions[1])
@@ -109,6 +112,8 @@ def account(reader: Reader, sources: Sequence[Source], plan: Plan, tariff: Tarif
 
     It is read with gaps, and merged first if it was received more than once. A field with a strip in a gap has no total.
     """
+    if isinstance(sources, (str, bytes, bytearray, memoryview, os.PathLike, ProductFile)):
+        raise TypeError("the files of a product are a list")
     receptions = [reader.open(source) for source in sources]
     for reception in receptions:
         need_rain(reader, reception)
@@ -119,6 +124,8 @@ def account(reader: Reader, sources: Sequence[Source], plan: Plan, tariff: Tarif
         if "offset" not in error.values:
             raise
         told = plan.refused(error)
+        if error.number != 39:
+            raise told from None
         picture = "a clear scan has no cells" if sweep.clear else "this one has %d radials of %d bins" % (sweep.radials, sweep.bins)
         raise BadForm(told.name, told.line, told.words + ": " + picture, told.number) from None
     marked = set(sweep.gap_radials)
@@ -132,11 +139,17 @@ def account(reader: Reader, sources: Sequence[Source], plan: Plan, tariff: Tarif
 
 
 def answer(reader: Reader, names: List[str], plan: Plan, tariff: Tariff) -> Dict[str, Any]:
-    """The account of a product by the names of its files, or the error; its key where the head is read; and that it is no rain if it is none."""
+    """The account of a product by the names of its files, or the error; its key where the head is read; and that it is no rain if it is none.
+
+    The head says both by itself: a file whose body is no good still is a reception of its product.
+    """
     said: Dict[str, Any] = {}
     try:
-        receptions = [reader.open(name) for name in names]
-        said["key"] = key_of(reader, receptions[0])
+        read = [read_bytes(name) for name in names]
+        head = parse_head(reader.library, read[0], names[0])
+        said["key"] = key_of(reader, head)
+        need_rain(reader, head)
+        receptions = [parse(reader.library, data, name, reader.cap) for data, name in zip(read, names)]
         said["account"] = account(reader, receptions, plan, tariff)
     except NoRain as error:
         said["error"], said["rain"] = "%s: %s" % (names[0], error), False

@@ -8,6 +8,7 @@ from . import account
 from .errors import Level3Error
 from .files import STANDARD_OUTPUT, write_whole
 from .picture import save_png
+from .product_file import ProductFile
 from .products import TITLES, scheme_text, short
 from .reader import Reader
 from .sweep import PACKET_AF1F, Reason, Sweep
@@ -23,27 +24,27 @@ class Task(NamedTuple):
     options: Dict[str, Any]
 
 
-def read(reader: Reader, task: Task) -> Sweep:
-    """The sweep that the command is about."""
+def read(reader: Reader, task: Task, files: List[ProductFile]) -> Sweep:
+    """The sweep that the command is about, from its opened files."""
     options = task.options
     arguments = {"scheme": options.get("scheme"), "gate": options.get("gate")}
     if task.command == "merge":
-        return reader.merge(task.files[0], task.files[1], **arguments)
+        return reader.merge(files[0], files[1], **arguments)
     if task.command == "check":
-        return reader.strict(task.files[0], **arguments)
+        return reader.strict(files[0], **arguments)
     if options.get("gaps"):
-        return reader.with_gaps(task.files[0], **arguments)
-    return reader.sweep(task.files[0], **arguments)
+        return reader.with_gaps(files[0], **arguments)
+    return reader.sweep(files[0], **arguments)
 
 
 def run(reader: Reader, task: Task) -> Dict[str, Any]:
     """Carries out a task; returns the text that is to be printed, and what a reader of the files should be told."""
     if task.command == "account":
         return account.answer(reader, task.files, task.options["plan"], task.options["tariff"])
+    files = [reader.open(file) for file in task.files]  # once: a pipe gives its bytes to the first reading alone
     if task.command == "export":
-        write_whole(task.output or "", reader.export_file(task.files[0]) if not task.options.get("body") else reader.export(task.files[0]))
-        return {"text": "", "wrote": _wrote(task.output)}
-    sweep = read(reader, task)
+        return export(reader, task, files[0])
+    sweep = read(reader, task, files)
     answer = {"text": "", "wrote": "", "notes": "\n".join("%s: note: %s" % (task.files[0], note) for note in sweep.notes)}
     picture = task.output if task.command in ("png", "merge") else None
     table = task.output if task.command == "csv" else task.options.get("table")
@@ -52,11 +53,12 @@ def run(reader: Reader, task: Task) -> Dict[str, Any]:
     if figures:
         answer["text"] = show(sweep, " and ".join(task.files))
     if figures and task.command == "merge":
-        answer["text"] += receptions(reader, task, sweep)
+        answer["text"] += receptions(reader, task, files, sweep)
     if task.command == "check":
         answer["text"] = "%s: good, %s %s, %d radials of %d bins\n" % (task.files[0], sweep.product, sweep.site, sweep.radials, sweep.bins)
     if picture:
-        save_png(sweep, picture, size=task.options.get("size", 800), reach=task.options.get("reach"), rings=not task.options.get("no_rings"))
+        save_png(sweep, picture, size=task.options.get("size", 800), reach=task.options.get("reach"), rings=not task.options.get("no_rings"),
+                 plan=task.options.get("outlined"))
         answer["wrote"] += _wrote(picture)
     if table:
         count = save_csv(sweep, table, everything=bool(task.options.get("all")))
@@ -64,10 +66,20 @@ def run(reader: Reader, task: Task) -> Dict[str, Any]:
     return answer
 
 
-def receptions(reader: Reader, task: Task, merged: Sweep) -> str:
+def export(reader: Reader, task: Task, file: ProductFile) -> Dict[str, Any]:
+    """Writes the product file of packet 16, or its body alone."""
+    body = bool(task.options.get("body"))
+    write_whole(task.output or "", reader.export(file) if body else reader.export_file(file))
+    answer = {"text": "", "wrote": _wrote(task.output)}
+    if file.others and not body:
+        answer["notes"] = "%s: note: left out: %d bytes of graphic and tabular blocks after the symbology" % (task.files[0], len(file.others))
+    return answer
+
+
+def receptions(reader: Reader, task: Task, files: List[ProductFile], merged: Sweep) -> str:
     """How many radials are gaps in each of two receptions, and in what was made of them."""
     arguments = {"scheme": task.options.get("scheme"), "gate": task.options.get("gate")}
-    first, second = (len(reader.with_gaps(file, **arguments).gap_radials) for file in task.files)
+    first, second = (len(reader.with_gaps(file, **arguments).gap_radials) for file in files)
     return _line("gaps", len(merged.gap_radials), "radials; %d in the first, %d in the second" % (first, second))
 
 

@@ -121,7 +121,7 @@ class Library:
 
     def call(self, name: str, *arguments: object) -> Tuple[Sequence[int], Sequence[float]]:
         """One call with a report of its own: the report's whole numbers and floats, or the refusal as an exception."""
-        ints, floats = (ctypes.c_int64 * INTS)(), (ctypes.c_double * FLOATS)()
+        ints, floats = _INTS(), _FLOATS()
         number = self.function(name)(*arguments, ints, INTS, floats, FLOATS)
         if number == ACCEPTED:
             return ints, floats
@@ -149,3 +149,4 @@ def address(view: memoryview) -> Optional[int]:
 
 
 _NOWHERE = (ctypes.c_char * 8)()
+_INTS, _FLOATS = ctypes.c_int64 * INTS, ctypes.c_double * FLOATS

@@ -13,13 +13,14 @@ from .canvas import LINE, Canvas, hatched, text_width
 from .colours import Scale, scale_for
 from .errors import Level3Error
 from .files import write_whole
+from .forms import Plan
 from .products import TITLES
 from .sweep import Reason, Sweep
 
 #: Numbers of the colours before those of the scale.
-OUTSIDE, BELOW, ABOVE, FLAGGED, FOLDED, GAP, GAP_LINE, NAN, NO_RADIAL, RING, TEXT, NOTE, UNDER, FIRST = range(14)
+OUTSIDE, BELOW, ABOVE, FLAGGED, FOLDED, GAP, GAP_LINE, NAN, NO_RADIAL, RING, TEXT, NOTE, UNDER, PLAN, FIRST = range(15)
 _FIXED = ((0, 0, 0), (18, 18, 24), (250, 250, 250), (26, 24, 30), (119, 0, 125), (40, 36, 30), (170, 150, 110), (90, 60, 60), (4, 4, 6),
-          (120, 120, 130), (225, 225, 230), (255, 210, 80), (34, 34, 42))
+          (120, 120, 130), (225, 225, 230), (255, 210, 80), (34, 34, 42), (255, 255, 255))
 _REASONS = {Reason.BELOW_FLOOR: BELOW, Reason.ABOVE_CEILING: ABOVE, Reason.FLAGGED: FLAGGED, Reason.RANGE_FOLDED: FOLDED,
             Reason.NOT_A_NUMBER: NAN}
 
@@ -87,10 +88,9 @@ def _cells(sweep: Sweep, flat: bytes) -> Tuple[bytes, int]:
     return b"".join(rows), bins + 2
 
 
-def _paint(canvas: Canvas, sweep: Sweep, flat: bytes, radials: List[int], left: int, top: int, half: int, reach: float) -> None:
-    """The disc, in a square of twice half pixels that reach metres go into half of."""
+def _lines(sweep: Sweep, cells: bytes, stride: int, radials: List[int], half: int, reach: float) -> List[bytes]:
+    """The disc, in a square of twice half pixels that reach metres go into half of, line by line: for each pixel what cells has for it."""
     slots, distances = _quarter(half)
-    cells, stride = _cells(sweep, flat)
     per = reach / half / sweep.gate
     start = 1 - (sweep.first_gate - sweep.gate / 2) / sweep.gate
     last = stride - 1
@@ -101,12 +101,35 @@ def _paint(canvas: Canvas, sweep: Sweep, flat: bytes, radials: List[int], left: 
     for part in (starts[:_SLOTS], starts[2 * _SLOTS - 1:_SLOTS - 1:-1], starts[2 * _SLOTS:3 * _SLOTS], starts[:3 * _SLOTS - 1:-1]):
         quarters.append(bytes(map(cells.__getitem__, map(add, map(part.__getitem__, slots), columns))))
     north_east, south_east, south_west, north_west = quarters
-    for j in range(half):
-        a, b = j * half, (j + 1) * half
-        canvas.row(left, top + half - 1 - j, north_west[a:b][::-1] + north_east[a:b])
-        canvas.row(left, top + half + j, south_west[a:b][::-1] + south_east[a:b])
+    outward = [slice(j * half, (j + 1) * half) for j in range(half)]
+    return [north_west[part][::-1] + north_east[part] for part in reversed(outward)] + [south_west[part][::-1] + south_east[part] for part in outward]
+
+
+def _paint(canvas: Canvas, sweep: Sweep, flat: bytes, radials: List[int], left: int, top: int, half: int, reach: float) -> None:
+    """The disc in its colours."""
+    for y, line in enumerate(_lines(sweep, *_cells(sweep, flat), radials, half, reach), top):
+        canvas.row(left, y, line)
     if sweep.gap_radials:
         _hatch(canvas, left, top, 2 * half)
+
+
+def _outline(canvas: Canvas, sweep: Sweep, plan: Plan, radials: List[int], left: int, top: int, half: int, reach: float) -> None:
+    """The edges of a plan's fields: those of their pixels that have another beside them."""
+    stride = sweep.bins + 2
+    cells = bytearray((sweep.radials + 1) * stride)
+    for k, field in enumerate(plan.fields):
+        for strip in field.strips:
+            if strip.radial >= sweep.radials or strip.gate + strip.gates > sweep.bins:
+                raise Level3Error("field %d of %s has a strip outside the picture: radial %d, gate %d, gates %d" % (field.number, plan.name, *strip[:3]))
+            at = strip.radial * stride + 1 + strip.gate
+            cells[at:at + strip.gates] = bytes((1 + k % 255,)) * strip.gates
+    none = bytes(2 * half)
+    lines = [none, *_lines(sweep, bytes(cells), stride, radials, half, reach), none]
+    for y, (above, line, below) in enumerate(zip(lines, lines[1:], lines[2:]), top):
+        for run in re.finditer(b"[^\\0]+", line):
+            for x in range(*run.span()):
+                if {above[x], below[x], *line[max(0, x - 1):x + 2]} != {line[x]} or x in (0, 2 * half - 1):
+                    canvas.put(left + x, y, PLAN)
 
 
 def _hatch(canvas: Canvas, left: int, top: int, side: int) -> None:
@@ -167,13 +190,15 @@ def _bar(canvas: Canvas, scale: Scale, unit: str, x: int, top: int, height: int)
             canvas.text(x + 18, y + each - 7, words, TEXT)
 
 
-def _legend(canvas: Canvas, sweep: Sweep, flat: bytes, missing: bool, y: int) -> None:
+def _legend(canvas: Canvas, sweep: Sweep, flat: bytes, missing: bool, planned: bool, y: int) -> None:
     """What the colours beside those of the bar mean, of those that occur."""
     entries = [(reason.text, colour) for reason, colour in _REASONS.items() if colour in flat]
     if sweep.gap_radials:
         entries.append(("gap", GAP))
     if missing:
         entries.append(("no radial", NO_RADIAL))
+    if planned:
+        entries.append(("plan", PLAN))
     x = 6
     for words, colour in entries:
         if x + 16 + text_width(words) > canvas.width - 6 and x > 6:
@@ -198,8 +223,11 @@ def _title(canvas: Canvas, sweep: Sweep, reach: float) -> None:
         canvas.text(canvas.width - 6 - min(text_width(note), canvas.width - 12), canvas.height - (1 + i) * LINE, note, NOTE)
 
 
-def draw(sweep: Sweep, size: int = 800, reach: Optional[float] = None, rings: bool = True) -> Canvas:
-    """The picture in a square of size pixels. reach is the range at the edge in metres, by default that of the last gate."""
+def draw(sweep: Sweep, size: int = 800, reach: Optional[float] = None, rings: bool = True, plan: Optional[Plan] = None) -> Canvas:
+    """The picture in a square of size pixels. reach is the range at the edge in metres, by default that of the last gate.
+
+    The fields of a plan are outlined; their strips must lie in the picture, and a clear scan has none for any strip.
+    """
     if not SMALLEST <= size <= LARGEST:
         raise ValueError("a picture has from %d to %d pixels a side" % (SMALLEST, LARGEST))
     if reach is not None and not 0 < reach < 1e7:
@@ -215,14 +243,18 @@ def draw(sweep: Sweep, size: int = 800, reach: Optional[float] = None, rings: bo
     reach = reach or (230_000.0 if sweep.clear or full <= 0 else full)
     x, y = half, _TOP + half
     if sweep.clear:
+        if plan and any(field.strips for field in plan.fields):
+            raise Level3Error("a clear scan has no cells for the strips of %s" % plan.name)
         words = "clear scan: the radar has seen nothing"
         canvas.text(x - text_width(words) // 2, y + half // 3, words, TEXT)
     else:
         flat, radials = sweep.cells_by_code(colour_table(sweep, scale)), nearest(sweep._azimuths.tolist())
         _paint(canvas, sweep, flat, radials, 0, _TOP, half, reach)
-        _legend(canvas, sweep, flat, -1 in radials, size - _BOTTOM + 6)
+        _legend(canvas, sweep, flat, -1 in radials, plan is not None, size - _BOTTOM + 6)
     if rings:
         _rings(canvas, x, y, half, reach)
+    if plan and not sweep.clear:
+        _outline(canvas, sweep, plan, radials, 0, _TOP, half, reach)
     _title(canvas, sweep, reach)
     _bar(canvas, scale, sweep.unit, 2 * half + 12, _TOP, 2 * half)
     return canvas

@@ -6,6 +6,7 @@ import os
 import struct
 from typing import NamedTuple, Optional, Tuple, Union
 
+from .bzip2 import unpack
 from .errors import BadFile
 from .library import Library
 
@@ -59,8 +60,9 @@ def read_bytes(path: Union[str, os.PathLike], cap: int = FILE_CAP) -> bytes:
     """The bytes of a file of at most cap bytes."""
     with open(path, "rb", buffering=0) as file:
         # a read takes room for all that it may give, so the first asks for what the file says it has
-        data = file.read(min(os.fstat(file.fileno()).st_size, cap) + 1)
-        more = file.read(min(cap + 1 - len(data), 1 << 16)) if data and len(data) <= cap else b""
+        size = os.fstat(file.fileno()).st_size
+        data = file.read(min(size, cap) + 1)
+        more = file.read(min(cap + 1 - len(data), 1 << 16)) if data and len(data) != size and len(data) <= cap else b""
         if more:
             parts = bytearray(data)
             while more and len(parts) <= cap:
@@ -90,22 +92,8 @@ def split_blocks(data: bytes) -> Tuple[bytes, bytes, bytes]:
     return data[:ends[0]], data[ends[0]:ends[-1]], data[ends[-1]:]
 
 
-def unpack(packed: Union[bytes, memoryview], cap: int = UNPACK_CAP) -> Tuple[bytes, bytes]:
-    """What a bzip2 stream holds, at most cap bytes, and the bytes after the stream."""
-    stream = bz2.BZ2Decompressor()
-    try:
-        data = stream.decompress(packed, cap + 1)
-    except (OSError, ValueError) as error:
-        raise BadFile("the bzip2 stream is damaged: %s" % error) from None
-    if len(data) > cap:
-        raise BadFile("more than %d bytes would be unpacked" % cap)
-    if not stream.eof:
-        raise BadFile("the bzip2 stream is cut short after %d unpacked bytes" % len(data))
-    return data, stream.unused_data
-
-
-def parse(library: Library, data: bytes, name: str = "", cap: int = UNPACK_CAP) -> ProductFile:
-    """The parts of a product file's bytes. Refused or BadFile if they are not those of one."""
+def parse_head(library: Library, data: bytes, name: str = "") -> ProductFile:
+    """What stands plain before the body, which is left empty, and need not be one. Refused or BadFile if no product can be told from it."""
     if not data:
         raise BadFile("the file is empty")
     token = library.call("l3_token", data, len(data))[0][0]
@@ -115,6 +103,15 @@ def parse(library: Library, data: bytes, name: str = "", cap: int = UNPACK_CAP) 
     fields = library.call("l3_pdb", data, len(data), block)[0]
     if fields[1] != code:
         raise BadFile("the message header has product code %d, the description block %d" % (code, fields[1]))
+    start = block + _BLOCK
+    return ProductFile(name, data[:start], token, header, block, code, b"", b"", data[start:start + 3] == b"BZh", b"")
+
+
+def parse(library: Library, data: bytes, name: str = "", cap: int = UNPACK_CAP) -> ProductFile:
+    """The parts of a product file's bytes. Refused or BadFile if they are not those of one."""
+    file = parse_head(library, data, name)
+    block = file.block
+    fields = library.call("l3_pdb", data, len(data), block)[0]
     if not (abs(fields[16]) <= 90_000 and abs(fields[17]) <= 180_000):
         raise BadFile("no such place on the earth: latitude %.3f, longitude %.3f" % (fields[16] / 1000, fields[17] / 1000))
     start = block + _BLOCK
@@ -124,9 +121,8 @@ def parse(library: Library, data: bytes, name: str = "", cap: int = UNPACK_CAP) 
     if offset not in (0, (_HEADER + _BLOCK) // 2):
         raise BadFile("the symbology is said to stand %d halfwords after the message header, where it stands %d after it"
                       % (offset, (_HEADER + _BLOCK) // 2))
-    packed = data[start:start + 3] == b"BZh"
-    if packed:
-        inside, trailing = unpack(memoryview(data)[start:], cap)
+    if file.packed:
+        inside, trailing = unpack(data, start, cap)
         body, others, left = split_blocks(inside)
         if left:
             body, others = inside, b""
@@ -135,7 +131,7 @@ def parse(library: Library, data: bytes, name: str = "", cap: int = UNPACK_CAP) 
             raise BadFile("the body has more than %d bytes" % cap)
         body, others, trailing = split_blocks(data[start:])
     library.call("l3_trailing", trailing, len(trailing))
-    return ProductFile(name, data[:start], token, header, block, code, body, others, packed, trailing)
+    return file._replace(body=body, others=others, trailing=trailing)
 
 
 def open_product(library: Library, source: Union[str, os.PathLike, bytes], cap: int = UNPACK_CAP) -> ProductFile:

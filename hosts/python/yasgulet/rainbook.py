@@ -5,6 +5,7 @@ import argparse
 import csv
 import os
 import sys
+from collections import Counter
 from fractions import Fraction
 from typing import Any, Callable, Dict, Iterator, List, NamedTuple, Optional, Set, Tuple
 
@@ -12,7 +13,7 @@ from .account import Account, FieldAccount, Key
 from .commands import Task, folder_files
 from .errors import REFUSALS
 from .files import STANDARD_OUTPUT, replacing, write_whole
-from .forms import Plan, plan_text, read_plan, read_tariff
+from .forms import BadForm, Plan, plan_text, read_plan, read_tariff
 from .reader import Charge, Reader
 
 COMMANDS = ("account", "plan")
@@ -48,6 +49,8 @@ def begin(arguments: argparse.Namespace, reader: Reader) -> Callable[[Answers], 
     plan = read_plan(reader, arguments.plan)
     if arguments.command == "plan":
         return lambda answers: _convert(plan, arguments)
+    if not plan.fields:
+        raise BadForm(plan.name, None, "no fields")
     options = {"plan": plan, "tariff": read_tariff(reader, arguments.tariff)}
     return lambda answers: _account([Task("account", [name], None, options) for name in inputs[2:]], arguments, plan, answers)
 
@@ -83,32 +86,49 @@ class Book(NamedTuple):
     lost: int
 
 
+#: What can be bad.
+FILES, PRODUCTS, TOTALS = "files", "products received more than once", "totals"
+
+
 class _Told:
-    """Carries out tasks and tells of what is bad."""
+    """Carries out tasks and tells of what is bad; ``bad`` counts it by its kind."""
 
     def __init__(self, answers: Answers, quiet: bool) -> None:
         self._answers = answers
-        self.bad = 0
+        self.bad: Dict[str, int] = Counter()
         self.progress = sys.stderr.isatty() and not quiet
 
-    def error(self, words: str) -> None:
+    def error(self, what: str, words: str) -> None:
         """Tells of something bad."""
-        self.bad += 1
+        self.bad[what] += 1
         print(words, file=sys.stderr)
 
-    def each(self, tasks: List[Task], words: str) -> Iterator[Tuple[Dict[str, Any], Task]]:
+    def each(self, tasks: List[Task], what: str) -> Iterator[Tuple[Dict[str, Any], Task]]:
         """Each task with its answer; on a terminal a line counts them."""
         for done, (answer, task) in enumerate(zip(self._answers(tasks), tasks), 1):
             if self.progress:
                 sys.stderr.write("\r\x1b[K")
             if "error" in answer:
-                self.error(answer["error"])
+                self.error(what, answer["error"])
             if self.progress:
-                sys.stderr.write("%d of %d %s%s" % (done, len(tasks), words, ", %d bad" % self.bad if self.bad else ""))
+                sys.stderr.write("%d of %d %s%s" % (done, len(tasks), what, ", %d bad" % self.bad[what] if self.bad[what] else ""))
                 sys.stderr.flush()
             yield answer, task
         if self.progress and tasks:
             sys.stderr.write("\n")
+
+    def summary(self, files: int) -> str:
+        """How many files there were, and how much was bad."""
+        line = "%d files, %d bad" % (files, self.bad[FILES])
+        if self.bad[PRODUCTS]:
+            line += "; %s not merged" % _several(self.bad[PRODUCTS], "product")
+        if self.bad[TOTALS]:
+            line += "; %s without a charge" % _several(self.bad[TOTALS], "total")
+        return line
+
+
+def _several(count: int, what: str) -> str:
+    return "%d %s%s" % (count, what, "" if count == 1 else "s")
 
 
 def _book(todo: List[Task], told: _Told) -> Book:
@@ -116,7 +136,7 @@ def _book(todo: List[Task], told: _Told) -> Book:
     found: Dict[Key, List[Tuple[Task, Account]]] = {}
     keys: Set[Key] = set()
     unknown = 0
-    for answer, task in told.each(todo, "files"):
+    for answer, task in told.each(todo, FILES):
         if "account" in answer:
             found.setdefault(answer["key"], []).append((task, answer["account"]))
         elif answer.get("rain", True):
@@ -126,7 +146,7 @@ def _book(todo: List[Task], told: _Told) -> Book:
                 unknown += 1
     accounts = {key: group[0][1] for key, group in found.items() if len(group) == 1}
     several = [Task("account", [task.files[0] for task, _ in group], None, todo[0].options) for group in found.values() if len(group) > 1]
-    for answer, _ in told.each(several, "products received more than once"):
+    for answer, _ in told.each(several, PRODUCTS):
         if "account" in answer:
             accounts[answer["key"]] = answer["account"]
     keys |= found.keys()
@@ -140,17 +160,20 @@ def _account(todo: List[Task], arguments: argparse.Namespace, plan: Plan, answer
     for one in book.accounts:
         for field in one.fields:
             if field.total is not None and field.charge is None:
-                told.error("%s: field %d: 41 %s (%s): %d" % (" and ".join(one.names), field.field, *REFUSALS[41][::2], field.total))
-    for note in notes(book):
+                told.error(TOTALS, "%s: field %d: 41 %s (%s): %d" % (" and ".join(one.names), field.field, *REFUSALS[41][::2], field.total))
+    for note in notes(book, plan, arguments.partial):
         print("note: " + note, file=sys.stderr)
     unwritten = _out(arguments, lambda: ", %d lines" % write(book, plan, arguments.output, arguments.partial))
     if len(todo) > 1 and not told.progress and not arguments.quiet:
-        print("%d files, %d bad" % (len(todo), told.bad), file=sys.stderr)
-    return 1 if told.bad or unwritten else 0
+        print(told.summary(len(todo)), file=sys.stderr)
+    return 1 if any(told.bad.values()) or unwritten else 0
 
 
-def notes(book: Book) -> List[str]:
-    """What a reader of the book should be told: a plan is of one radar and one grid, and units of another size can't be added."""
+def notes(book: Book, plan: Plan, partial: bool) -> List[str]:
+    """What a reader of the book should be told.
+
+    A plan is of one radar and one grid, steps of another size can't be added, rain is not below 0, and a gap is not dry.
+    """
     found = []
     for what, values in (("sites", {a.key[3] for a in book.accounts}),
                          ("grids", {"%d by %d of %g m" % (a.radials, a.bins, a.gate) for a in book.accounts})):
@@ -160,8 +183,23 @@ def notes(book: Book) -> List[str]:
     if len(kinds) > 1:
         found.append("products of %d kinds are added, and may have the same rain: %s" % (len(kinds), ", ".join(sorted(kinds))))
     if len({(a.step, a.unit) for a in book.accounts}) > 1:
-        found.append("the products' units differ in size: there is no sum of totals")
+        found.append("the products' steps differ: their totals are not added")
+    below = [" and ".join(a.names) for a in book.accounts if a.step < 0]
+    if below:
+        found.append("no weighted rain, the declared scale is below 0: " + ", ".join(below))
+    gaps = [text for text in (_gaps(k, field.number, book, partial) for k, field in enumerate(plan.fields)) if text]
+    if gaps:
+        found.append("no sum because of gaps: " + ", ".join(gaps))
     return found
+
+
+def _gaps(k: int, number: int, book: Book, partial: bool) -> str:
+    """The plan's kth field with its gaps, if they leave it without a sum."""
+    gaps = [one.fields[k].gaps for one in book.accounts if one.fields[k].gaps]
+    if not gaps or partial and any(one.fields[k].charge is not None for one in book.accounts):
+        return ""
+    radials = sorted(set().union(*gaps))
+    return "field %d (%s, radial%s %s)" % (number, _several(len(gaps), "product"), "" if len(radials) == 1 else "s", " ".join(map(str, radials)))
 
 
 def decimal(number: Fraction) -> Optional[str]:
@@ -179,6 +217,7 @@ def decimal(number: Fraction) -> Optional[str]:
 
 
 def _rain(number: Optional[Fraction], unit: str) -> Tuple[str, str]:
+    """Weighted rain and its unit, where it has an exact decimal."""
     text = None if number is None else decimal(number)
     return ("", "") if text is None else (text, unit)
 
@@ -201,9 +240,10 @@ def _product(one: Account) -> Iterator[List[object]]:
     time = "%02d:%02d:%02d" % (seconds // 3600, seconds // 60 % 60, seconds % 60)
     for field in one.fields:
         good = field.charge is not None
+        rain = None if field.total is None or one.step < 0 else field.total * one.step
         yield ["field" if good else "gap" if field.total is None else "too large", date, time, site, one.product, code, len(one.names), field.field,
-               "" if field.total is None else field.total, *_rain(None if field.total is None else field.total * one.step, one.unit),
-               *_money(field.charge), int(good), int(not good), " ".join(map(str, field.gaps))]
+               "" if field.total is None else field.total, *_rain(rain, one.unit), *_money(field.charge), int(good), int(not good),
+               " ".join(map(str, field.gaps))]
 
 
 def _money(charge: Optional[Charge]) -> Tuple[object, object]:
@@ -222,7 +262,9 @@ def _sum(k: int, number: int, book: Book, partial: bool) -> List[object]:
         charges = [field.charge or Charge(0, 0) for _, field in counted]
         one_size = len({(one.step, one.unit) for one, _ in counted}) == 1
         one_unit = len({one.unit for one, _ in counted}) == 1
-        rain = sum((total * one.step for (one, _), total in zip(counted, totals)), Fraction(0)) if one_unit else None
+        rain = None
+        if one_unit and all(one.step > 0 for one, _ in counted):
+            rain = sum((total * one.step for (one, _), total in zip(counted, totals)), Fraction(0))
         figures = [sum(totals) if one_size else "", *_rain(rain, counted[0][0].unit), sum(charge.cents for charge in charges),
                    sum(charge.remainder for charge in charges)]
     return [word, "", "", "", "", "", "", number, *figures, len(counted), missing, ""]

@@ -74,6 +74,8 @@ class Reader:
     def merge(self, first: Source, second: Source, scheme: SchemeLike = None, gate: Optional[float] = None) -> Sweep:
         """Two receptions of one product as one sweep: each row from the first if whole there, else from the second, else a gap."""
         one, two = self.open(first), self.open(second)
+        if (one.product, one.site) != (two.product, two.site):
+            raise BadFile("the two files are not receptions of one product: %s %s and %s %s" % (one.product, one.site, two.product, two.site))
         if _product_of(one) != _product_of(two):
             raise BadFile("the two files are not receptions of one product: their headers differ")
         return self._read("l3_merge", one, scheme, gate, marked=True, second=two.body)
@@ -106,7 +108,7 @@ class Reader:
         return bytes(output[:ints[0]])
 
     def export_file(self, source: Source) -> bytes:
-        """A product file like the given one with the packet 16 body of its AF1F body."""
+        """A product file like the given one with the packet 16 body of its AF1F body. Blocks after the symbology are left out."""
         file = self.open(source)
         return file.with_body(self.export(file))
 
