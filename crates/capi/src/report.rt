@@ -346,14 +346,20 @@ pub(crate) fn write_report(report: Report, ints: &mut [u64], floats: &mut [f64])
     report.number
 }
 
-// The report of an accepted value, or of the refusal.
-fn report_of<T: Reported>(given: Result<T, Level3DecodeError>) -> Report
-    ensures { result ≡ report_of (answer given) T.places }
+// Writes the report of a refusal. A function of its own, so that what is accepted is written where it is found.
+fn write_refusal(error: Level3DecodeError, ints: &mut [u64], floats: &mut [f64]) -> u32
+    ensures { Leaves (said (refusal_report (refusal_of error)))
+        result ints.old ints.new floats.old floats.new }
 {
-    match given {
-        Ok(value) => value.report(),
-        Err(error) => refusal_report(error),
-    }
+    write_report(refusal_report(error), ints, floats)
+}
+
+// The same of an item, with the position where it stopped.
+fn write_stopped(error: Level3DecodeError, at: usize, ints: &mut [u64], floats: &mut [f64]) -> u32
+    ensures { Leaves (said (with_position (refusal_report (refusal_of error)) at))
+        result ints.old ints.new floats.old floats.new }
+{
+    write_report(with_position(refusal_report(error), at), ints, floats)
 }
 
 // Writes the report of what a lower function answers.
@@ -365,7 +371,10 @@ pub(crate) fn write_answer<T: Reported>(
     ensures { Leaves (said (report_of (answer given) T.places))
         result ints.old ints.new floats.old floats.new }
 {
-    write_report(report_of(given), ints, floats)
+    match given {
+        Ok(value) => write_report(value.report(), ints, floats),
+        Err(error) => write_refusal(error, ints, floats),
+    }
 }
 
 // The same of an item that a cursor read, with the position where it ended.
@@ -378,5 +387,8 @@ pub(crate) fn write_ended<T: Reported>(
     ensures { Leaves (said (ended_report (ended given at) T.places))
         result ints.old ints.new floats.old floats.new }
 {
-    write_report(with_position(report_of(given), at), ints, floats)
+    match given {
+        Ok(value) => write_report(with_position(value.report(), at), ints, floats),
+        Err(error) => write_stopped(error, at, ints, floats),
+    }
 }

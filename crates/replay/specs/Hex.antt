@@ -1,5 +1,5 @@
 -- What hexadecimal words spell. Assumes nothing.
-use Rattle.std.specs.Prelude.{ℕ, ◌+◌, ◌-◌, ◌*◌, ◌%◌, Bool, cond, ◌&&◌, ◌||◌, List, [], ◌∷◌, length, ◌==◌, from_bits, nat_le, nat_lt, Float}
+use Rattle.std.specs.Prelude.{ℕ, ◌+◌, ◌-◌, ◌*◌, ◌/◌, ◌%◌, min, Bool, cond, ◌&&◌, ◌||◌, List, [], ◌∷◌, length, take, ◌==◌, from_bits, nat_le, nat_lt, Float}
 use Rattle.std.specs.Float.{binary32}
 use Rattle.wire.specs.Text.{same, all}
 use Rattle.std.specs.List.{fold}
@@ -26,6 +26,10 @@ abbrev pub bytes_of : List ℕ → List ℕ
 bytes_of [] = []
 bytes_of (b ∷ []) = []
 bytes_of (high ∷ low ∷ rest) = byte_of high low ∷ bytes_of rest
+
+-- those for which there is room
+unfoldable pub bytes_in : ℕ → List ℕ → List ℕ
+bytes_in n word = take (min (length word / 2) n) (bytes_of word)
 
 -- `-`, or two digits for each of 1 to 32,768 bytes
 abbrev pub is_bytes : List ℕ → Bool

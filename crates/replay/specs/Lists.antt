@@ -1,5 +1,5 @@
 -- The numbers of a list, with a comma between two; `-` is none. Assumes nothing.
-use Rattle.std.specs.Prelude.{ℕ, zero, suc, ◌+◌, Bool, false, cond, ◌&&◌, ◌||◌, List, [], ◌∷◌, map, length, take, drop, ◌==◌, nat_le}
+use Rattle.std.specs.Prelude.{ℕ, zero, suc, ◌+◌, min, Bool, false, cond, ◌&&◌, ◌||◌, List, [], ◌∷◌, map, length, take, drop, ◌==◌, nat_le}
 use Rattle.std.specs.List.{prefix_len, slice_split}
 use Rattle.wire.specs.Text.{same}
 use Rattle.replay.specs.Words.{other, number_of, is_size}
@@ -41,3 +41,15 @@ pieces = slice_split (λ b. b == 44)
 -- all of them
 abbrev pub list_of : List ℕ → List ℕ
 list_of word = cond (is_none word) [] (map number_of (pieces word))
+
+-- the first n of them
+unfoldable pub entries : ℕ → List ℕ → List ℕ
+entries zero word = []
+entries (suc n) word = number_of (piece_of word) ∷ cond (is_last word) [] (entries n (rest_of word))
+
+unfoldable pub list_in : ℕ → List ℕ → List ℕ
+list_in n word = cond (is_none word) [] (entries n word)
+
+-- all of them, each at most what 32 bits hold
+abbrev pub rates_of : List ℕ → List ℕ
+rates_of word = map (λ n. min n 4294967295) (list_of word)

@@ -1,9 +1,95 @@
 // Which lines are cases, and the answer line of each.
 use crate::case::Case;
-use crate::kinds::{FieldKind, Form, Item, Kind, Scheme};
+use crate::kinds::{FieldKind, Form, Item, Kind, Reading, Scheme};
+use crate::text::Text;
 use std::alloc::Global;
 use std::io;
 use std::io::Write;
+
+impl Kind {
+    // The kind that a case's first word names.
+    fn of(word: &[u8]) -> Option<Kind> {
+        Some(match word {
+            b"sweep" => Kind::Sweep(Reading::Plain),
+            b"strict" => Kind::Sweep(Reading::Strict),
+            b"gaps" => Kind::Sweep(Reading::Gaps),
+            b"merge" => Kind::Sweep(Reading::Merge),
+            b"plan" => Kind::Sweep(Reading::Plan),
+            b"sym" => Kind::Symbology,
+            b"export" => Kind::Export,
+            b"token" => Kind::Token,
+            b"mhb" => Kind::Header,
+            b"time" => Kind::Time,
+            b"date" => Kind::Date,
+            b"field" => Kind::Field,
+            b"pdb" => Kind::Block,
+            b"lin" => Kind::Linear,
+            b"flt" => Kind::Float,
+            b"thr" => Kind::Threshold,
+            b"prc" => Kind::Precip,
+            b"charge" => Kind::Charge,
+            b"leg" => Kind::Legacy,
+            b"trail" => Kind::Trailing,
+            b"known" => Kind::Known,
+            b"product" => Kind::Product,
+            b"name" => Kind::Name,
+            b"codes" => Kind::Codes,
+            b"xdr" => Kind::Xdr,
+            _ => return None,
+        })
+    }
+
+    // What the words behind the case's name have to be.
+    fn form(self) -> &'static [Form] {
+        match self {
+            Kind::Sweep(Reading::Plain | Reading::Strict) => &[
+                Form::Clock,
+                Form::Scheme,
+                Form::Size,
+                Form::Size,
+                Form::Size,
+                Form::Bytes,
+                Form::Bytes,
+            ],
+            Kind::Sweep(Reading::Gaps) => &[
+                Form::Clock,
+                Form::Scheme,
+                Form::Size,
+                Form::Size,
+                Form::Size,
+                Form::Size,
+                Form::Bytes,
+                Form::Bytes,
+            ],
+            Kind::Sweep(Reading::Merge) | Kind::Sweep(Reading::Plan) => &[
+                Form::Clock,
+                Form::Scheme,
+                Form::Size,
+                Form::Size,
+                Form::Size,
+                Form::Size,
+                Form::Bytes,
+                Form::Bytes,
+                Form::Bytes,
+            ],
+            Kind::Symbology | Kind::Token | Kind::Header | Kind::Trailing => &[Form::Bytes],
+            Kind::Export => &[Form::Size, Form::Bytes],
+            Kind::Time => &[Form::Clock, Form::Days, Form::Seconds],
+            Kind::Date => &[Form::Days],
+            Kind::Field => &[Form::Bytes, Form::Size, Form::Size, Form::FieldKind],
+            Kind::Block | Kind::Linear | Kind::Float | Kind::Threshold => {
+                &[Form::Bytes, Form::Size]
+            }
+            Kind::Precip => &[Form::Bytes, Form::Size, Form::Float],
+            Kind::Charge => &[Form::Size, Form::Ends, Form::Rates],
+            Kind::Legacy => &[Form::Thresholds, Form::Float],
+            Kind::Known | Kind::Product => &[Form::Code],
+            Kind::Name => &[Form::Number, Form::Size],
+            Kind::Codes => &[],
+            Kind::Xdr => &[Form::Items, Form::Bytes],
+        }
+    }
+}
 
 fn is_scheme(word: &[u8]) -> bool {
     match Scheme::of(word) {
@@ -46,7 +132,7 @@ fn is_formed(case: Case, kind: Kind) -> bool {
         && case.word(form.len() + 2).is_empty()
 }
 
-fn print(out: &mut Vec<u8>, case: Case, kind: Kind) -> io::Result<()> {
+fn print(out: &mut Text, case: Case, kind: Kind) -> io::Result<()> {
     match kind {
         Kind::Sweep(reading) => crate::sweeps::answer(out, case, reading),
         Kind::Symbology => crate::body::symbology(out, case),
@@ -73,7 +159,7 @@ fn print(out: &mut Vec<u8>, case: Case, kind: Kind) -> io::Result<()> {
 }
 
 // Empty lines and comments have no answer; `?` is that of a line that is no case.
-pub fn line(out: &mut Vec<u8>, alloc: Global, line: &[u8]) -> io::Result<()> {
+fn print_line(out: &mut Text, alloc: Global, line: &[u8]) -> io::Result<()> {
     if line.is_empty() || line[0] == b'#' {
         return Ok(());
     }
@@ -85,4 +171,10 @@ pub fn line(out: &mut Vec<u8>, alloc: Global, line: &[u8]) -> io::Result<()> {
         _ => out.write_all(b"?")?,
     }
     out.write_all(b"\n")
+}
+
+// A failure is kept.
+pub fn line(out: &mut Text, alloc: Global, line: &[u8]) {
+    let done = print_line(out, alloc, line);
+    out.keep(done);
 }

@@ -1,18 +1,21 @@
 // The picture of a symbology body, and its export.
+ghost use Rattle.std.specs.Prelude.{◌≡◌, take};
+
 use crate::case::Case;
 use crate::lent::{ROOM, Report, check, filled};
 use crate::print::{Row, Single};
+use crate::text::Text;
 use std::io;
 use std::io::Write;
 
-fn print_packet(out: &mut Vec<u8>, n: u64) -> io::Result<()> {
+fn print_packet(out: &mut Text, n: u64) -> io::Result<()> {
     if n == 0xaf1f {
         return out.write_all(b"packet=AF1F");
     }
     write!(out, "packet={n}")
 }
 
-fn print_geometry(out: &mut Vec<u8>, report: &Report) -> io::Result<()> {
+fn print_geometry(out: &mut Text, report: &Report) -> io::Result<()> {
     if report.ints[6] == 28 {
         return write!(
             out,
@@ -25,12 +28,14 @@ fn print_geometry(out: &mut Vec<u8>, report: &Report) -> io::Result<()> {
 }
 
 // The first n of what was lent, or all.
-pub fn first<T>(places: &[T], n: usize) -> &[T] {
+pub fn first<T>(places: &[T], n: usize) -> &[T]
+    ensures { result.now ≡ take n places.now }
+{
     places.get(..n).unwrap_or(places)
 }
 
 pub fn print_picture(
-    out: &mut Vec<u8>,
+    out: &mut Text,
     report: &Report,
     azimuths: &[f64],
     codes: &[u16],
@@ -47,7 +52,7 @@ pub fn print_picture(
 }
 
 // What the library answers, and that it wrote nothing else. A picture of more cells than there is room for is not answered.
-pub fn symbology(out: &mut Vec<u8>, case: Case) -> io::Result<()> {
+pub fn symbology(out: &mut Text, case: Case) -> io::Result<()> {
     let body = case.bytes(2)?;
     let mut azimuths = filled(case.alloc, ROOM)?;
     let mut codes = filled(case.alloc, ROOM)?;
@@ -76,7 +81,7 @@ pub fn symbology(out: &mut Vec<u8>, case: Case) -> io::Result<()> {
 }
 
 // The body that the library writes to a part of the buffer, and that it wrote nothing else.
-pub fn export16(out: &mut Vec<u8>, case: Case) -> io::Result<()> {
+pub fn export16(out: &mut Text, case: Case) -> io::Result<()> {
     let room = case.size(2);
     let body = case.bytes(3)?;
     if ROOM < room {

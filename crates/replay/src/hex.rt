@@ -1,15 +1,21 @@
 // Bytes and floats of hexadecimal words. `-` is no bytes.
-ghost use Rattle.std.specs.Prelude.{◌≡◌, ◌*◌, ◌%◌, IfOk, cond};
+ghost use Rattle.std.specs.Prelude.{◌≡◌, ◌*◌, ◌%◌, ◌++◌, IfOk, cond, length, drop};
 ghost use Rattle.wire.specs.Text.{all};
-ghost use Rattle.replay.specs.Hex.{digit_value, byte_of, bytes_of, is_hex, is_bytes, is_float, bits_of, float_of};
+ghost use Rattle.replay.specs.Counts.{IsPrefixLen};
+ghost use Rattle.replay.specs.Hex.{digit_value, byte_of, bytes_of, bytes_in, is_hex, is_bytes, is_float, bits_of, float_of};
 
 use std::alloc::{AllocError, Global};
 
-// The value of a hexadecimal digit.
+// The value of a hexadecimal digit. By hand: the library's `to_digit` takes any base, and a third longer.
 fn digit(b: u8) -> Option<u32>
     ensures { result ≡ cond (is_hex b) (Some (digit_value b)) None }
 {
-    char::from(b).to_digit(16)
+    match b {
+        b'0'..=b'9' => Some(u32::from(b - b'0')),
+        b'A'..=b'F' => Some(u32::from(b - b'A') + 10),
+        b'a'..=b'f' => Some(u32::from(b - b'a') + 10),
+        _ => None,
+    }
 }
 
 // It, or 0 of any other byte.
@@ -40,15 +46,26 @@ fn byte_of(high: u8, low: u8) -> u8
     (value(high) * 16 + value(low)) as u8
 }
 
+// The bytes that a word spells, at the front of a buffer; how many there are.
+pub fn read_into(word: &[u8], buf: &mut [u8]) -> usize
+    ensures value { result ≡ length (bytes_in (length buf.old) word.now) }
+    ensures buf_after { buf.new ≡ bytes_in (length buf.old) word.now ++ drop result buf.old }
+    ensures prefix_len { IsPrefixLen result buf.new }
+{
+    let n = buf.len().min(word.len() / 2);
+    for i in 0..n {
+        buf[i] = byte_of(word[i * 2], word[i * 2 + 1]);
+    }
+    n
+}
+
 // The bytes that a word spells.
 pub fn read(alloc: Global, word: &[u8]) -> Result<Vec<u8>, AllocError>
     ensures { IfOk result (λ v. v.items ≡ bytes_of word.now) }
 {
-    let (pairs, _) = word.as_chunks::<2>();
-    pairs
-        .iter()
-        .map(|[high, low]| byte_of(*high, *low))
-        .collect(alloc)
+    let mut bytes = vec![in alloc; 0; word.len() / 2]?;
+    read_into(word, &mut bytes);
+    Ok(bytes)
 }
 
 // Whether a word spells the bits of an f32.

@@ -1,5 +1,5 @@
 // The kinds of cases, and what a case's words name in the library.
-ghost use Rattle.std.specs.Prelude.{◌≡◌, ◌≤◌, Some};
+ghost use Rattle.std.specs.Prelude.{◌≡◌, Some};
 ghost use Rattle.replay.specs.Kinds.{field_kind, scheme_number, parameter_of, item_number};
 ghost use Rattle.replay.specs.Numbers.{number_of_kind, number_of_scheme, number_of_item};
 
@@ -11,19 +11,6 @@ pub enum Reading {
     Gaps,
     Merge,
     Plan,
-}
-
-impl Reading {
-    // The word of the file; that of the body is the next, and then that of the second body or of the plan. The lengths of the buffers stand
-    // before it.
-    pub fn file_word(self) -> usize
-        ensures { result ≤ 8 }
-    {
-        match self {
-            Reading::Plain | Reading::Strict => 7,
-            Reading::Gaps | Reading::Merge | Reading::Plan => 8,
-        }
-    }
 }
 
 #[derive(Clone, Copy)]
@@ -69,91 +56,6 @@ pub enum Form {
     Items,
     Ends,
     Rates,
-}
-
-impl Kind {
-    // The kind that a case's first word names.
-    pub fn of(word: &[u8]) -> Option<Kind> {
-        Some(match word {
-            b"sweep" => Kind::Sweep(Reading::Plain),
-            b"strict" => Kind::Sweep(Reading::Strict),
-            b"gaps" => Kind::Sweep(Reading::Gaps),
-            b"merge" => Kind::Sweep(Reading::Merge),
-            b"plan" => Kind::Sweep(Reading::Plan),
-            b"sym" => Kind::Symbology,
-            b"export" => Kind::Export,
-            b"token" => Kind::Token,
-            b"mhb" => Kind::Header,
-            b"time" => Kind::Time,
-            b"date" => Kind::Date,
-            b"field" => Kind::Field,
-            b"pdb" => Kind::Block,
-            b"lin" => Kind::Linear,
-            b"flt" => Kind::Float,
-            b"thr" => Kind::Threshold,
-            b"prc" => Kind::Precip,
-            b"charge" => Kind::Charge,
-            b"leg" => Kind::Legacy,
-            b"trail" => Kind::Trailing,
-            b"known" => Kind::Known,
-            b"product" => Kind::Product,
-            b"name" => Kind::Name,
-            b"codes" => Kind::Codes,
-            b"xdr" => Kind::Xdr,
-            _ => return None,
-        })
-    }
-
-    // What the words behind the case's name have to be.
-    pub fn form(self) -> &'static [Form] {
-        match self {
-            Kind::Sweep(Reading::Plain | Reading::Strict) => &[
-                Form::Clock,
-                Form::Scheme,
-                Form::Size,
-                Form::Size,
-                Form::Size,
-                Form::Bytes,
-                Form::Bytes,
-            ],
-            Kind::Sweep(Reading::Gaps) => &[
-                Form::Clock,
-                Form::Scheme,
-                Form::Size,
-                Form::Size,
-                Form::Size,
-                Form::Size,
-                Form::Bytes,
-                Form::Bytes,
-            ],
-            Kind::Sweep(Reading::Merge) | Kind::Sweep(Reading::Plan) => &[
-                Form::Clock,
-                Form::Scheme,
-                Form::Size,
-                Form::Size,
-                Form::Size,
-                Form::Size,
-                Form::Bytes,
-                Form::Bytes,
-                Form::Bytes,
-            ],
-            Kind::Symbology | Kind::Token | Kind::Header | Kind::Trailing => &[Form::Bytes],
-            Kind::Export => &[Form::Size, Form::Bytes],
-            Kind::Time => &[Form::Clock, Form::Days, Form::Seconds],
-            Kind::Date => &[Form::Days],
-            Kind::Field => &[Form::Bytes, Form::Size, Form::Size, Form::FieldKind],
-            Kind::Block | Kind::Linear | Kind::Float | Kind::Threshold => {
-                &[Form::Bytes, Form::Size]
-            }
-            Kind::Precip => &[Form::Bytes, Form::Size, Form::Float],
-            Kind::Charge => &[Form::Size, Form::Ends, Form::Rates],
-            Kind::Legacy => &[Form::Thresholds, Form::Float],
-            Kind::Known | Kind::Product => &[Form::Code],
-            Kind::Name => &[Form::Number, Form::Size],
-            Kind::Codes => &[],
-            Kind::Xdr => &[Form::Items, Form::Bytes],
-        }
-    }
 }
 
 // A field's kind.

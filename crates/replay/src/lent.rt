@@ -3,6 +3,7 @@ ghost use Rattle.std.specs.Prelude.{◌≡◌, ◌<◌, IfOk, negsuc, replicate,
 ghost use Rattle.wire.specs.Float.{whole32, whole64};
 ghost use Rattle.replay.specs.Report.{cells_of};
 
+use crate::text::Text;
 use std::alloc::{AllocError, Global};
 use std::io;
 use std::io::Write;
@@ -67,12 +68,7 @@ pub fn filled<T: Pattern>(alloc: Global, n: usize) -> Result<Vec<T>, AllocError>
 }
 
 // Says where a place from `from` on was written.
-pub fn check<T: Pattern>(
-    out: &mut Vec<u8>,
-    name: &str,
-    places: &[T],
-    from: usize,
-) -> io::Result<()> {
+pub fn check<T: Pattern>(out: &mut Text, name: &str, places: &[T], from: usize) -> io::Result<()> {
     if places.iter().skip(from).any(|x| *x != T::PATTERN) {
         write!(out, " KEPT {name}")?;
     }
@@ -124,7 +120,7 @@ impl Report {
         radials * bins
     }
 
-    pub fn check(&self, out: &mut Vec<u8>) -> io::Result<()> {
+    pub fn check(&self, out: &mut Text) -> io::Result<()> {
         check(out, "ints", &self.ints, 24)?;
         check(out, "floats", &self.floats, 8)
     }

@@ -1,4 +1,5 @@
 // The lines of standard input, one after another.
+use crate::text::Text;
 use std::alloc::Global;
 use std::io;
 use std::io::{BufRead, Read};
@@ -8,20 +9,20 @@ use std::ops::ControlFlow;
 const ROOM: usize = 65536;
 
 // Answers a line, and writes the answer.
-fn answer_line(rt: &impl Print, alloc: Global, line: &[u8]) -> io::Result<()> {
-    let mut out = Vec::new(alloc);
-    crate::answer::line(&mut out, alloc, line)?;
-    rt.write_all(&out)
+fn answer_line(out: &mut Text, rt: &impl Print, alloc: Global, line: &[u8]) {
+    crate::answer::line(out, alloc, line);
+    out.write_to(rt);
 }
 
 // One turn: reads on to the line's end, and answers the line where it has ended, or where there is no more.
 fn turn(
+    out: &mut Text,
     rt: &(impl Print + Eprint),
     alloc: Global,
     failed: &mut Option<io::Error>,
     input: &mut impl BufRead,
     line: &mut Vec<u8>,
-) -> io::Result<ControlFlow<()>> {
+) -> ControlFlow<()> {
     let held = line.len();
     let room = ROOM.saturating_sub(held);
     // No `From` makes a `u64` of a `usize`.
@@ -30,23 +31,26 @@ fn turn(
     }
     match line.as_slice() {
         [whole @ .., b'\n'] => {
-            answer_line(rt, alloc, whole)?;
+            answer_line(out, rt, alloc, whole);
             line.clear();
-            Ok(ControlFlow::Continue(()))
+            ControlFlow::Continue(())
         }
         all if ROOM <= all.len() => {
-            eprintln!(rt; "replay: a line is longer than the 65,536 bytes that there is room for")?;
-            Ok(ControlFlow::Break(()))
+            let warned = eprintln!(rt;
+                "replay: a line is longer than the 65,536 bytes that there is room for"
+            );
+            out.keep(warned);
+            ControlFlow::Break(())
         }
         all if all.len() == held => {
-            answer_line(rt, alloc, all)?;
+            answer_line(out, rt, alloc, all);
             // What was read before a read failed is answered first.
-            match failed.take() {
-                None => Ok(ControlFlow::Break(())),
-                Some(e) => Err(e),
+            if let Some(e) = failed.take() {
+                out.keep(Err(e));
             }
+            ControlFlow::Break(())
         }
-        _ => Ok(ControlFlow::Continue(())),
+        _ => ControlFlow::Continue(()),
     }
 }
 
@@ -56,12 +60,14 @@ pub fn answer_all(
     alloc: Global,
     input: &mut impl BufRead,
 ) -> io::Result<()> {
+    let mut out = Text::new(alloc);
     let mut line = Vec::with_capacity(alloc, ROOM)?;
     let mut failed = None;
     for _ in 0..u64::MAX {
-        if let ControlFlow::Break(()) = turn(rt, alloc, &mut failed, input, &mut line)? {
+        let ended = turn(&mut out, rt, alloc, &mut failed, input, &mut line).is_break();
+        if ended || out.has_failed() {
             break;
         }
     }
-    Ok(())
+    out.finish()
 }

@@ -19,6 +19,7 @@ mod refusal;
 mod small;
 mod sweeps;
 mod tables;
+mod text;
 mod words;
 mod xdr_items;
 

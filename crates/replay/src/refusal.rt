@@ -1,6 +1,7 @@
 // A refusal: its number, and its values out of the report. The number stays one, since an answer line has it as the library gave it.
 use crate::lent::Report;
 use crate::print::Single;
+use crate::text::Text;
 use std::io;
 use std::io::Write;
 
@@ -45,7 +46,7 @@ fn buffer(n: u64) -> &'static str {
 }
 
 // The first whole number: an item, a buffer, an index that takes all 64 bits, or signed as the others are.
-fn print_first(out: &mut Vec<u8>, number: u32, n: u64) -> io::Result<()> {
+fn print_first(out: &mut Text, number: u32, n: u64) -> io::Result<()> {
     match number {
         3 => write!(out, " {n}"),
         23 => write!(out, " {}", item(n)),
@@ -55,10 +56,10 @@ fn print_first(out: &mut Vec<u8>, number: u32, n: u64) -> io::Result<()> {
 }
 
 // Asks an entry of the library, and writes its refusal, or what it accepted as `accepted` does.
-pub fn ask<F, G>(out: &mut Vec<u8>, entry: F, accepted: G) -> io::Result<()>
+pub fn ask<F, G>(out: &mut Text, entry: F, accepted: G) -> io::Result<()>
 where
     F: FnOnce(&mut Report) -> u32,
-    G: FnOnce(&mut Vec<u8>, &Report) -> io::Result<()> + Drop,
+    G: FnOnce(&mut Text, &Report) -> io::Result<()> + Drop,
     requires entry { F.IsAlwaysCallable entry }
     requires accepted { G.IsAlwaysCallable accepted }
 {
@@ -72,7 +73,7 @@ where
     report.check(out)
 }
 
-pub fn print(out: &mut Vec<u8>, number: u32, report: &Report) -> io::Result<()> {
+pub fn print(out: &mut Text, number: u32, report: &Report) -> io::Result<()> {
     write!(out, "R {number}")?;
     for (k, n) in report.ints.iter().take(wholes(number)).enumerate() {
         if k == 0 {

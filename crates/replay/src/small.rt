@@ -4,12 +4,13 @@ use crate::kinds::FieldKind;
 use crate::lent::Report;
 use crate::print::{Cell, Single};
 use crate::refusal::ask;
+use crate::text::Text;
 use std::io;
 use std::io::Write;
 
 // The token at a place, from byte `from` on: its product, its site, or both.
 pub fn print_token(
-    out: &mut Vec<u8>,
+    out: &mut Text,
     file: &[u8],
     at: usize,
     from: usize,
@@ -22,7 +23,7 @@ pub fn print_token(
 }
 
 // The fields of the description block.
-pub fn print_fields(out: &mut Vec<u8>, report: &Report) -> io::Result<()> {
+pub fn print_fields(out: &mut Text, report: &Report) -> io::Result<()> {
     let ints = &report.ints;
     let floats = &report.floats;
     write!(
@@ -39,20 +40,20 @@ pub fn print_fields(out: &mut Vec<u8>, report: &Report) -> io::Result<()> {
     )
 }
 
-fn print_number(out: &mut Vec<u8>, report: &Report) -> io::Result<()> {
+fn print_number(out: &mut Text, report: &Report) -> io::Result<()> {
     write!(out, "A {}", report.ints[0].cast_signed())
 }
 
-fn print_pair(out: &mut Vec<u8>, low: f64, high: f64) -> io::Result<()> {
+fn print_pair(out: &mut Text, low: f64, high: f64) -> io::Result<()> {
     write!(out, "A f{} f{}", Single(low), Single(high))
 }
 
-fn print_linear(out: &mut Vec<u8>, report: &Report) -> io::Result<()> {
+fn print_linear(out: &mut Text, report: &Report) -> io::Result<()> {
     print_pair(out, report.floats[6], report.floats[7])?;
     write!(out, " {}", report.ints[11])
 }
 
-fn print_precip(out: &mut Vec<u8>, report: &Report) -> io::Result<()> {
+fn print_precip(out: &mut Text, report: &Report) -> io::Result<()> {
     print_pair(out, report.floats[6], report.floats[7])?;
     write!(out, " {}", report.ints[12])?;
     match report.ints[13] {
@@ -103,7 +104,7 @@ fn unit(n: u64) -> &'static str {
     }
 }
 
-fn print_product(out: &mut Vec<u8>, report: &Report) -> io::Result<()> {
+fn print_product(out: &mut Text, report: &Report) -> io::Result<()> {
     let ints = &report.ints;
     if ints[0] == 0 {
         return out.write_all(b"A unknown");
@@ -120,7 +121,7 @@ fn print_product(out: &mut Vec<u8>, report: &Report) -> io::Result<()> {
     write!(out, " elevation={}", ints[5])
 }
 
-pub fn token(out: &mut Vec<u8>, case: Case) -> io::Result<()> {
+pub fn token(out: &mut Text, case: Case) -> io::Result<()> {
     let file = case.bytes(2)?;
     ask(
         out,
@@ -134,7 +135,7 @@ pub fn token(out: &mut Vec<u8>, case: Case) -> io::Result<()> {
     )
 }
 
-pub fn header(out: &mut Vec<u8>, case: Case) -> io::Result<()> {
+pub fn header(out: &mut Text, case: Case) -> io::Result<()> {
     let file = case.bytes(2)?;
     ask(
         out,
@@ -143,7 +144,7 @@ pub fn header(out: &mut Vec<u8>, case: Case) -> io::Result<()> {
     )
 }
 
-pub fn trailing(out: &mut Vec<u8>, case: Case) -> io::Result<()> {
+pub fn trailing(out: &mut Text, case: Case) -> io::Result<()> {
     let bytes = case.bytes(2)?;
     ask(
         out,
@@ -152,7 +153,7 @@ pub fn trailing(out: &mut Vec<u8>, case: Case) -> io::Result<()> {
     )
 }
 
-pub fn time(out: &mut Vec<u8>, case: Case) -> io::Result<()> {
+pub fn time(out: &mut Text, case: Case) -> io::Result<()> {
     let clock = crate::words::clock(case.word(2));
     let days = crate::words::unsigned16(case.word(3));
     let seconds = crate::words::signed32(case.word(4));
@@ -164,7 +165,7 @@ pub fn time(out: &mut Vec<u8>, case: Case) -> io::Result<()> {
 }
 
 // Year, month and day.
-pub fn date(out: &mut Vec<u8>, case: Case) -> io::Result<()> {
+pub fn date(out: &mut Text, case: Case) -> io::Result<()> {
     let days = crate::words::unsigned16(case.word(2));
     ask(
         out,
@@ -173,7 +174,7 @@ pub fn date(out: &mut Vec<u8>, case: Case) -> io::Result<()> {
     )
 }
 
-pub fn field(out: &mut Vec<u8>, case: Case) -> io::Result<()> {
+pub fn field(out: &mut Text, case: Case) -> io::Result<()> {
     let file = case.bytes(2)?;
     let block = case.size(3);
     let index = case.size(4);
@@ -199,7 +200,7 @@ pub fn field(out: &mut Vec<u8>, case: Case) -> io::Result<()> {
     )
 }
 
-pub fn block(out: &mut Vec<u8>, case: Case) -> io::Result<()> {
+pub fn block(out: &mut Text, case: Case) -> io::Result<()> {
     let file = case.bytes(2)?;
     let block = case.size(3);
     ask(
@@ -213,7 +214,7 @@ pub fn block(out: &mut Vec<u8>, case: Case) -> io::Result<()> {
 }
 
 // A linear scale, as an entry of the library reads it from the file.
-pub fn linear<F>(out: &mut Vec<u8>, case: Case, entry: F) -> io::Result<()>
+pub fn linear<F>(out: &mut Text, case: Case, entry: F) -> io::Result<()>
 where
     F: FnOnce(&[u8], usize, &mut [u64], &mut [f64]) -> u32,
     requires { F.IsAlwaysCallable entry }
@@ -227,7 +228,7 @@ where
     )
 }
 
-pub fn precip(out: &mut Vec<u8>, case: Case) -> io::Result<()> {
+pub fn precip(out: &mut Text, case: Case) -> io::Result<()> {
     let file = case.bytes(2)?;
     let block = case.size(3);
     let factor = case.float(4);
@@ -238,7 +239,7 @@ pub fn precip(out: &mut Vec<u8>, case: Case) -> io::Result<()> {
     )
 }
 
-pub fn product(out: &mut Vec<u8>, case: Case) -> io::Result<()> {
+pub fn product(out: &mut Text, case: Case) -> io::Result<()> {
     let code = crate::words::signed16(case.word(2));
     ask(
         out,

@@ -1,12 +1,28 @@
 // The sweep reading: without gaps, by the archive profile, with gaps, of two receptions, with the totals of a field plan.
+ghost use Rattle.std.specs.Prelude.{◌≤◌};
+
 use crate::body::first;
 use crate::case::Case;
 use crate::kinds::{Reading, Scheme};
 use crate::lent::{ROOM, Report, check, filled};
 use crate::print::{Commas, Row, Single};
+use crate::text::Text;
 use std::alloc::AllocError;
 use std::io;
 use std::io::Write;
+
+impl Reading {
+    // The word of the file; that of the body is the next, and then that of the second body or of the plan. The lengths of the buffers stand
+    // before it.
+    fn file_word(self) -> usize
+        ensures { result ≤ 8 }
+    {
+        match self {
+            Reading::Plain | Reading::Strict => 7,
+            Reading::Gaps | Reading::Merge | Reading::Plan => 8,
+        }
+    }
+}
 
 // What is lent to a reading.
 #[derive(Drop)]
@@ -73,7 +89,7 @@ impl Lent {
     }
 
     // Says where the library wrote a place that it must keep.
-    fn check(&self, out: &mut Vec<u8>, written: Written) -> io::Result<()> {
+    fn check(&self, out: &mut Text, written: Written) -> io::Result<()> {
         check(out, "azimuths", &self.azimuths, written.azimuths)?;
         check(out, "codes", &self.codes, written.cells)?;
         check(out, "physical", &self.physical, written.cells)?;
@@ -82,7 +98,7 @@ impl Lent {
     }
 }
 
-fn print_scale(out: &mut Vec<u8>, report: &Report) -> io::Result<()> {
+fn print_scale(out: &mut Text, report: &Report) -> io::Result<()> {
     if report.ints[10] == 0 {
         return out.write_all(b" scale=none");
     }
@@ -96,7 +112,7 @@ fn print_scale(out: &mut Vec<u8>, report: &Report) -> io::Result<()> {
     )
 }
 
-fn print_sweep(out: &mut Vec<u8>, file: &[u8], report: &Report, lent: &Lent) -> io::Result<()> {
+fn print_sweep(out: &mut Text, file: &[u8], report: &Report, lent: &Lent) -> io::Result<()> {
     out.write_all(b"A tok=")?;
     crate::small::print_token(out, file, report.size(0), 0, 6)?;
     out.write_all(b" ")?;
@@ -109,12 +125,7 @@ fn print_sweep(out: &mut Vec<u8>, file: &[u8], report: &Report, lent: &Lent) -> 
 }
 
 // What a reading gives beside the sweep.
-fn print_more(
-    out: &mut Vec<u8>,
-    reading: Reading,
-    written: Written,
-    lent: &Lent,
-) -> io::Result<()> {
+fn print_more(out: &mut Text, reading: Reading, written: Written, lent: &Lent) -> io::Result<()> {
     match reading {
         Reading::Plain | Reading::Strict => Ok(()),
         Reading::Gaps | Reading::Merge => {
@@ -144,7 +155,10 @@ fn ask(
     let parameter = crate::hex::float(crate::kinds::parameter(case.word(3)));
     let at = reading.file_word();
     let body = case.bytes(at + 1)?;
-    let more = case.bytes(at + 2)?;
+    let more = match reading {
+        Reading::Plain | Reading::Strict | Reading::Gaps => Vec::new(case.alloc),
+        Reading::Merge | Reading::Plan => case.bytes(at + 2)?,
+    };
     Ok(match reading {
         Reading::Plain => capi::sweeps::l3_sweep(
             file,
@@ -214,7 +228,7 @@ fn ask(
     })
 }
 
-pub fn answer(out: &mut Vec<u8>, case: Case, reading: Reading) -> io::Result<()> {
+pub fn answer(out: &mut Text, case: Case, reading: Reading) -> io::Result<()> {
     let Some(scheme) = Scheme::of(case.word(3)) else {
         return out.write_all(b"?");
     };

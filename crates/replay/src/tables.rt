@@ -2,10 +2,11 @@
 use crate::case::Case;
 use crate::lent::{Pattern, ROOM, Report, check, filled};
 use crate::print::{Cell, Row};
+use crate::text::Text;
 use std::io;
 use std::io::Write;
 
-pub fn threshold(out: &mut Vec<u8>, case: Case) -> io::Result<()> {
+pub fn threshold(out: &mut Text, case: Case) -> io::Result<()> {
     let file = case.bytes(2)?;
     let block = case.size(3);
     let mut thresholds = [u8::PATTERN; 32];
@@ -27,7 +28,7 @@ pub fn threshold(out: &mut Vec<u8>, case: Case) -> io::Result<()> {
     report.check(out)
 }
 
-pub fn legacy(out: &mut Vec<u8>, case: Case) -> io::Result<()> {
+pub fn legacy(out: &mut Text, case: Case) -> io::Result<()> {
     let bytes = case.bytes(2)?;
     let mut levels = [f32::PATTERN; 16];
     let number = capi::scaling::l3_legacy16(&bytes, case.float(3), &mut levels);
@@ -42,12 +43,12 @@ pub fn legacy(out: &mut Vec<u8>, case: Case) -> io::Result<()> {
     Ok(())
 }
 
-pub fn known(out: &mut Vec<u8>, case: Case) -> io::Result<()> {
+pub fn known(out: &mut Text, case: Case) -> io::Result<()> {
     let number = capi::products::l3_known(crate::words::signed16(case.word(2)));
     write!(out, "A {number}")
 }
 
-pub fn codes(out: &mut Vec<u8>) -> io::Result<()> {
+pub fn codes(out: &mut Text) -> io::Result<()> {
     let mut table = [u16::PATTERN; 26];
     let number = capi::products::l3_codes(&mut table);
     // The library's number; 0 is acceptance.
@@ -58,7 +59,7 @@ pub fn codes(out: &mut Vec<u8>) -> io::Result<()> {
 }
 
 // A refusal's name. The library writes 32 places: zeros stand behind it.
-pub fn name(out: &mut Vec<u8>, case: Case) -> io::Result<()> {
+pub fn name(out: &mut Text, case: Case) -> io::Result<()> {
     let places = case.size(3);
     if ROOM < places {
         return out.write_all(b"? too large");

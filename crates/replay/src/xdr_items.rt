@@ -3,6 +3,7 @@ use crate::case::Case;
 use crate::kinds::Item;
 use crate::lent::Report;
 use crate::print::{Row, Single};
+use crate::text::Text;
 use std::io;
 use std::io::Write;
 use std::ops::ControlFlow;
@@ -13,7 +14,7 @@ fn part(payload: &[u8], start: usize, n: usize) -> Option<&[u8]> {
     payload.get(start..)?.get(..n)
 }
 
-fn print_string(out: &mut Vec<u8>, s: Option<&[u8]>) -> io::Result<()> {
+fn print_string(out: &mut Text, s: Option<&[u8]>) -> io::Result<()> {
     match s {
         None => out.write_all(b"?"),
         Some(s) if s.is_ascii() => write!(out, "s{}", Row(s)),
@@ -22,7 +23,7 @@ fn print_string(out: &mut Vec<u8>, s: Option<&[u8]>) -> io::Result<()> {
 }
 
 // Not `Commas`: the numbers are read one by one from the payload.
-fn print_array(out: &mut Vec<u8>, s: Option<&[u8]>) -> io::Result<()> {
+fn print_array(out: &mut Text, s: Option<&[u8]>) -> io::Result<()> {
     let Some(s) = s else {
         return out.write_all(b"?");
     };
@@ -37,7 +38,7 @@ fn print_array(out: &mut Vec<u8>, s: Option<&[u8]>) -> io::Result<()> {
 }
 
 fn print_item(
-    out: &mut Vec<u8>,
+    out: &mut Text,
     item: Item,
     payload: &[u8],
     at: usize,
@@ -58,7 +59,7 @@ fn print_item(
 
 // Reads an item, and says where the next one begins; a refusal is the last.
 fn read(
-    out: &mut Vec<u8>,
+    out: &mut Text,
     item: Item,
     payload: &[u8],
     at: usize,
@@ -86,7 +87,7 @@ fn read(
 }
 
 // Reads the items that the letters say, up to the first refusal; the position then.
-fn read_all(out: &mut Vec<u8>, letters: &[u8], payload: &[u8]) -> io::Result<usize> {
+fn read_all(out: &mut Text, letters: &[u8], payload: &[u8]) -> io::Result<usize> {
     let mut at = 0;
     for letter in letters {
         let Some(item) = Item::of(*letter) else {
@@ -100,7 +101,7 @@ fn read_all(out: &mut Vec<u8>, letters: &[u8], payload: &[u8]) -> io::Result<usi
     Ok(at)
 }
 
-pub fn answer(out: &mut Vec<u8>, case: Case) -> io::Result<()> {
+pub fn answer(out: &mut Text, case: Case) -> io::Result<()> {
     let payload = case.bytes(3)?;
     out.write_all(b"X")?;
     let at = read_all(out, case.word(2), &payload)?;

@@ -1,5 +1,5 @@
 -- A loop that writes f of each element of cs to the front of a list d. Assumes nothing.
-use mathlib.Core.Path.{◌≡◌, refl, ◌∙◌}
+use mathlib.Core.Path.{◌≡◌, refl, subst, ◌∙◌}
 use mathlib.Core.List.{List, ◌∷◌, ◌++◌, map}
 use Prim.Native.Nat.{ℕ, ◌+◌, ◌<◌, ◌≤◌}
 use native.Mathlib.Numerals.{add-one}
@@ -29,6 +29,11 @@ module _ {A B : Type 0} {f : A → B} {cs : List A} {d xs : List B} {i : ℕ} (i
         long = length-set xs i v ∙ inv.long;
         laid = laid_set (f (get_or cs i z)) (map f (drop (i + 1) cs)) v (rw e at inv.laid) w;
       }
+
+  -- what a call may answer at an argument that is the element
+  pub mapped_given : (z : A) (post : A → B → Type 0) → ((k : ℕ) (r : B) → k < length cs → post (get_or cs k z) r → r ≡ f (get_or cs k z)) → i < length cs
+      → {a : A} {v : B} → post a v → a ≡ get_or cs i z → Mapped f cs d (set xs i v) (i + 1)
+  mapped_given z post gives h {a} {v} p is = mapped_turn z v h (gives i v h (subst (λ x. post x v) is p))
 
   pub mapped_end : length cs ≤ i → xs ≡ map f cs ++ drop (length cs) d
   mapped_end h =

@@ -4,3 +4,4 @@ pub mod Examples
 pub mod Gaps
 pub mod InPart
 pub mod Signs
+pub mod Zeros

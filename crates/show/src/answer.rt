@@ -5,7 +5,8 @@ ghost use Rattle.show.specs.InPart.{ReadInPart};
 
 use crate::picture::Lent;
 use crate::refusals::Refusal;
-use crate::rooms::{CODES, RADIALS, VALUES};
+use crate::rooms;
+use crate::text::Text;
 use scale::physical::Scheme;
 use std::alloc::Global;
 use std::io;
@@ -92,16 +93,16 @@ pub enum Ending {
 }
 
 pub fn show(
-    out: &mut Vec<u8>,
+    out: &mut Text,
     alloc: Global,
     asked: Asked,
     file: &[u8],
     body: &[u8],
 ) -> io::Result<Ending> {
-    let mut azimuths = vec![in alloc; 0.0f64; RADIALS]?;
-    let mut codes = vec![in alloc; 0u16; CODES]?;
-    let mut physical = vec![in alloc; 0.0f32; VALUES]?;
-    let mut marks = vec![in alloc; 0u8; shown_marks(asked.gaps)]?;
+    let mut azimuths = rooms::azimuths(alloc)?;
+    let mut codes = rooms::codes(alloc)?;
+    let mut physical = rooms::physical(alloc)?;
+    let mut marks = rooms::zeros(alloc, shown_marks(asked.gaps))?;
     match read_asked(
         asked,
         file,

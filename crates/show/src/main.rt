@@ -18,6 +18,7 @@ mod floats;
 mod picture;
 mod refusals;
 mod rooms;
+mod text;
 mod words;
 
 use answer::{Asked, Ending};
@@ -29,6 +30,7 @@ use std::io;
 use std::io::Write;
 use std::process::ExitCode;
 use std::rt::Clock;
+use text::Text;
 use words::NoClock;
 
 const USAGE: &str = "usage: show FILE [BODY SCHEME [CLOCK] [gaps]]
@@ -55,12 +57,12 @@ fn print_usage(rt: &impl Eprint) {
 fn run<R: Files + Eprint>(
     rt: &R,
     alloc: Global,
-    out: &mut Vec<u8>,
+    out: &mut Text,
     file_name: &str,
     body_name: &str,
     asked: Asked,
 ) -> io::Result<Ending> {
-    let Some(file) = files::load(rt, alloc, file_name, rooms::FILE) else {
+    let Some(file) = files::load_front(rt, alloc, file_name, rooms::FILE) else {
         return Ok(Ending::Failed);
     };
     // One byte more shows that the body is longer.
@@ -91,14 +93,14 @@ fn run<R: Files + Eprint>(
 fn run_head<R: Files + Clock + Eprint>(
     rt: &R,
     alloc: Global,
-    out: &mut Vec<u8>,
+    out: &mut Text,
     file_name: &str,
 ) -> io::Result<Ending> {
     let Some(clock) = words::system_clock(rt) else {
         warn(rt, "the system has no time; give BODY, SCHEME and CLOCK");
         return Ok(Ending::Failed);
     };
-    let Some(file) = files::load(rt, alloc, file_name, rooms::FILE) else {
+    let Some(file) = files::load_front(rt, alloc, file_name, rooms::FILE) else {
         return Ok(Ending::Failed);
     };
     match sweep::plan::read_head(Scheme::Class, &file, clock) {
@@ -148,7 +150,7 @@ fn asked<R: Clock + Eprint>(
 fn run_words<R: Files + Clock + Eprint>(
     rt: &R,
     alloc: Global,
-    out: &mut Vec<u8>,
+    out: &mut Text,
     all: &[String],
 ) -> io::Result<Ending> {
     // The words without gaps; SCHEME is never taken for it.
@@ -188,9 +190,9 @@ fn status(ending: Ending) -> u8
 
 // The answer is written at the end, all at once.
 fn answer_words(rt: &HostRuntime, words: &[String]) -> io::Result<Ending> {
-    let mut out = Vec::new(rt.alloc());
+    let mut out = Text::new(rt.alloc());
     let ending = run_words(rt, rt.alloc(), &mut out, words)?;
-    rt.write_all(&out)?;
+    out.write(rt)?;
     Ok(ending)
 }
 

@@ -4,6 +4,7 @@ ghost use Rattle.show.specs.Gaps.{marked as markedIn, gap_at};
 
 use crate::dates::{Day, Time};
 use crate::floats::{Cell, Decimal, Double, Fine};
+use crate::text::{Text, distance};
 use head::pdb::PdbFields;
 use scale::scaling::DeclaredLinearScale;
 use std::fmt::Display;
@@ -14,21 +15,21 @@ use sweep::sweep::Sweep;
 use symbology::figures::{Figures, Geometry, Packet};
 
 // A line: a name, a value at the right end of a column, and what stands behind it.
-fn line<T: Display + Drop>(out: &mut Vec<u8>, name: &str, value: T, unit: &str) -> io::Result<()> {
+fn line<T: Display + Drop>(out: &mut Text, name: &str, value: T, unit: &str) -> io::Result<()> {
     writeln!(out, "{name:16}{value:>16}{unit}")
 }
 
 // Degrees from a whole number of parts, 10^places to a degree: exact, so that no float's digits are printed.
-fn degrees_line(out: &mut Vec<u8>, name: &str, z: i32, places: u8) -> io::Result<()>
+fn degrees_line(out: &mut Text, name: &str, z: i32, places: u8) -> io::Result<()>
     requires { 10 ^ places < 2 ^ 64 }
 {
-    let degrees = Decimal::new(z < 0, u64::from(z.unsigned_abs()), places);
+    let degrees = Decimal::new(z < 0, distance(z), places);
     line(out, name, degrees, " degrees")
 }
 
 // Metres from whole feet, exact too: a foot is 3,048 ten-thousandths.
-fn height_line(out: &mut Vec<u8>, feet: i32) -> io::Result<()> {
-    let metres = Decimal::new(feet < 0, u64::from(feet.unsigned_abs()) * 3048, 4);
+fn height_line(out: &mut Text, feet: i32) -> io::Result<()> {
+    let metres = Decimal::new(feet < 0, distance(feet) * 3048, 4);
     writeln!(out, "{:16}{metres:>16} m, {feet} feet", "height")
 }
 
@@ -40,12 +41,12 @@ fn word(file: &[u8], at: usize) -> &str {
         .unwrap_or("")
 }
 
-fn print_token(out: &mut Vec<u8>, file: &[u8], at: usize) -> io::Result<()> {
+fn print_token(out: &mut Text, file: &[u8], at: usize) -> io::Result<()> {
     line(out, "product", word(file, at), "")?;
     line(out, "site", word(file, at.saturating_add(3)), "")
 }
 
-fn date_line(out: &mut Vec<u8>, days: u16) -> io::Result<()> {
+fn date_line(out: &mut Text, days: u16) -> io::Result<()> {
     match calendar::date::calendar_day(days) {
         Ok(d) => writeln!(out, "scan date             {}", Day(d)),
         // Day 0, which no accepted head has.
@@ -53,7 +54,7 @@ fn date_line(out: &mut Vec<u8>, days: u16) -> io::Result<()> {
     }
 }
 
-fn print_fields(out: &mut Vec<u8>, f: PdbFields, time: u64) -> io::Result<()> {
+fn print_fields(out: &mut Text, f: PdbFields, time: u64) -> io::Result<()> {
     degrees_line(out, "latitude", f.lat_thousandths, 3)?;
     degrees_line(out, "longitude", f.lon_thousandths, 3)?;
     height_line(out, i32::from(f.height_feet))?;
@@ -69,14 +70,14 @@ fn print_fields(out: &mut Vec<u8>, f: PdbFields, time: u64) -> io::Result<()> {
     writeln!(out, "time of day             {second} UTC")
 }
 
-fn print_scale(out: &mut Vec<u8>, s: DeclaredLinearScale) -> io::Result<()> {
+fn print_scale(out: &mut Text, s: DeclaredLinearScale) -> io::Result<()> {
     line(out, "scale minimum", Fine(s.value_min), "")?;
     line(out, "scale step", Fine(s.value_increment), "")?;
     line(out, "scale levels", s.n_levels, "")?;
     line(out, "scale floor", s.data_floor_code, "")
 }
 
-fn print_declared(out: &mut Vec<u8>, declared: Option<DeclaredLinearScale>) -> io::Result<()> {
+fn print_declared(out: &mut Text, declared: Option<DeclaredLinearScale>) -> io::Result<()> {
     match declared {
         Some(s) => print_scale(out, s),
         None => line(out, "scale", "none", ""),
@@ -91,7 +92,7 @@ fn packet_name(p: Packet) -> &'static str {
     }
 }
 
-fn print_figures(out: &mut Vec<u8>, f: Figures) -> io::Result<()> {
+fn print_figures(out: &mut Text, f: Figures) -> io::Result<()> {
     line(out, "packet", packet_name(f.packet), "")?;
     line(out, "radials", f.n_radials, "")?;
     line(out, "bins", f.n_bins, "")?;
@@ -107,7 +108,7 @@ fn print_figures(out: &mut Vec<u8>, f: Figures) -> io::Result<()> {
     }
 }
 
-fn print_codes(out: &mut Vec<u8>, codes: &[u16]) -> io::Result<()> {
+fn print_codes(out: &mut Text, codes: &[u16]) -> io::Result<()> {
     write!(out, "  codes ")?;
     for code in codes {
         write!(out, " {code:>8}")?;
@@ -115,7 +116,7 @@ fn print_codes(out: &mut Vec<u8>, codes: &[u16]) -> io::Result<()> {
     writeln!(out)
 }
 
-fn print_values(out: &mut Vec<u8>, physical: &[f32]) -> io::Result<()> {
+fn print_values(out: &mut Text, physical: &[f32]) -> io::Result<()> {
     write!(out, "  values")?;
     for value in physical {
         write!(out, " {:>8}", Cell(*value))?;
@@ -149,7 +150,7 @@ pub struct Lent<'a> {
 }
 
 // The first n cells of a radial that stand from place `at` on.
-fn print_cells(out: &mut Vec<u8>, lent: Lent, at: usize, n: usize) -> io::Result<()> {
+fn print_cells(out: &mut Text, lent: Lent, at: usize, n: usize) -> io::Result<()> {
     if let Some(codes) = lent.codes.get(at..).and_then(|rest| rest.get(..n)) {
         print_codes(out, codes)?;
     }
@@ -160,7 +161,7 @@ fn print_cells(out: &mut Vec<u8>, lent: Lent, at: usize, n: usize) -> io::Result
 }
 
 // The first radials, those of 4 that have cells.
-fn print_radials(out: &mut Vec<u8>, lent: Lent, radials: usize, bins: usize) -> io::Result<()> {
+fn print_radials(out: &mut Text, lent: Lent, radials: usize, bins: usize) -> io::Result<()> {
     let n = bins.min(8);
     let mut at = 0usize;
     for (radial, azimuth) in lent.azimuths.iter().enumerate().take(radials.min(4)) {
@@ -196,12 +197,12 @@ fn is_clear(radials: usize) -> bool
 }
 
 // A head alone.
-pub fn print_head(out: &mut Vec<u8>, h: Head, file: &[u8]) -> io::Result<()> {
+pub fn print_head(out: &mut Text, h: Head, file: &[u8]) -> io::Result<()> {
     print_token(out, file, h.token)?;
     print_fields(out, h.fields, h.time)
 }
 
-pub fn print(out: &mut Vec<u8>, s: Sweep, file: &[u8], lent: Lent) -> io::Result<()> {
+pub fn print(out: &mut Text, s: Sweep, file: &[u8], lent: Lent) -> io::Result<()> {
     print_token(out, file, s.token)?;
     print_fields(out, s.fields, s.time)?;
     print_declared(out, s.declared)?;

@@ -1,4 +1,4 @@
--- The body: its header and its packets, a law for each figures_of of the code. Assumes nothing.
+-- The body: its header and its packets, a law for each answer of the code. Assumes nothing.
 use Rattle.std.proofs.Common.{◌≡◌, ℕ, zero, suc, ◌+◌, ◌-◌, ◌*◌, ◌<◌, ◌≤◌, Bool, true, false, cond, not, ◌&&◌, ◌||◌, eqb, ltb, List, [], ◌∷◌, length, get_or, take, drop, ℤ, pos, sym, refl, ap, ◌∙◌, ap₂, arith, w8, Fits, ltb-false, ltb-true, le-ltb, lt-ltb, ne_eqb}
 use mathlib.Core.Path.{fun_ext}
 use lib.Seq.{slice, take-length}

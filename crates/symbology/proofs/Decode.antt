@@ -1,5 +1,5 @@
 -- What a plan and the terms say of a body's picture, a law for each answer of the code. Assumes nothing.
-use Rattle.std.proofs.Common.{◌≡◌, ℕ, ◌-◌, ◌*◌, ◌≤◌, Bool, true, false, not, ltb, List, [], length, take, drop, sym, refl, ap, ◌∙◌, ltb-false}
+use Rattle.std.proofs.Common.{◌≡◌, ℕ, ◌-◌, ◌*◌, ◌≤◌, Bool, true, false, not, ltb, List, [], length, take, drop, sym, refl, ap, ap₂, ◌∙◌, ltb-false}
 use lib.Ieee.{Float}
 use Rattle.wire.specs.Refusal.{Refusal, kind, refusal_of}
 use Rattle.wire.specs.Result.{Result, accepted, answer, refused, refuse, then, lent}
@@ -13,7 +13,8 @@ use Rattle.symbology.specs.Walk.{in_mode, any_walk, Plotted, on_terms}
 use Rattle.symbology.specs.declared.figures.Figures.{Figures}
 use Rattle.symbology.specs.declared.figures.Terms.{Terms}
 use Rattle.std.specs.Prelude as Std
-use Rattle.wire.proofs.Results.{one_value, through, passed}
+use Rattle.std.specs.Result.{result_and}
+use Rattle.wire.proofs.Results.{both, one_value, through, passed}
 
 -- the figures of what was read
 abbrev pub figures_read : Result (Given Sweep) → Result Figures
@@ -54,6 +55,16 @@ admit_is t na nc f = sym (by (not (asked t.packets f.packet)) (step_of t.packets
         ≡ then (refuse b (kind 10 []) c) λ _. room_in t na nc f.n_radials (f.n_radials * f.n_bins)
     by true c = refl
     by false c = refl
+
+-- and those of the results, the first refusal of two
+pub used : (t : Terms) (f : Figures) (r q : Std.Result (Unit {0}) Level3DecodeError) {x : Std.Result (Unit {0}) Level3DecodeError} → x ≡ result_and r q
+    → answer r ≡ refuse (not (asked t.packets f.packet)) (kind 10 []) (accepted tt) → answer q ≡ step_of t.packets → answer x ≡ usable t f
+used t f r q is h k = ap answer is ∙ both r q ∙ ap₂ (λ r q. then r λ _. q) h k ∙ use_is t f
+
+pub admitted : (t : Terms) (na nc : ℕ) (f : Figures) (r q : Std.Result (Unit {0}) Level3DecodeError)
+    {x : Std.Result (Unit {0}) Level3DecodeError} → x ≡ result_and r q → answer r ≡ usable t f → answer q ≡ room_in t na nc f.n_radials (f.n_radials * f.n_bins)
+    → answer x ≡ admit t na nc f
+admitted t na nc f r q is h k = ap answer is ∙ both r q ∙ ap₂ (λ r q. then r λ _. q) h k ∙ admit_is t na nc f
 
 -- ---- a plan whose figures are tested
 

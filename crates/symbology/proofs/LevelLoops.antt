@@ -1,6 +1,6 @@
 -- The loops over the integers of packet 28: the test of all, the search for the first that is not a level, the writing. Assumes nothing.
-use Rattle.std.proofs.Common.{◌≡◌, ℕ, ◌/◌, ◌≤◌, Bool, true, false, not, nat_lt, cond, List, [], ◌∷◌, map, length, get_or, ℤ, Option, Some, None, sym, ap, ◌∙◌, zero-add, arith, le-leb, ltb-false, ltb-true, refl}
-use lib.ListN.{length-map, get_or-map}
+use Rattle.std.proofs.Common.{◌≡◌, ℕ, ◌+◌, ◌*◌, ◌/◌, ◌≤◌, Bool, true, false, not, nat_lt, ltb, cond, List, [], ◌∷◌, map, length, get_or, take, drop, ℤ, Option, Some, None, sym, ap, ◌∙◌, zero-add, arith, length-drop, length-take-le, get_or-drop, get_or-take, le-leb, ltb-false, ltb-true, refl}
+use lib.ListN.{length-map, get_or-map, get_or-eq_default}
 use borrow.Author.Tests.{lt-leb, not-true}
 use Rattle.std.specs.Int.{w32, from_be_bytes}
 use Rattle.std.specs.List.{position, position_or_len}
@@ -13,8 +13,9 @@ use Rattle.wire.specs.Result.{Result, accepted, refused, then}
 use Rattle.wire.specs.Text.{all}
 use Rattle.wire.proofs.Every.{all_of, first_not}
 use Rattle.symbology.specs.Rows.{words, is_level, levels}
-use Rattle.symbology.proofs.RowWords.{words_are}
+use Rattle.symbology.proofs.RowWords.{words_length, words_are}
 use Rattle.symbology.proofs.FirstBad.{each_level, levels_are}
+use Rattle.symbology.proofs.LowFirst.{swap, all_back}
 
 -- ---- the answer of `check_levels`
 
@@ -59,3 +60,20 @@ module _ (s : List ℕ) {ints : List (List ℕ)} (front : ints ≡ first_chunks 
           let at = position-Some over ints gate [] (sym found ∙ some) in
           let f = first_not is_level (words s) gate (omega (arith, at.0, many)) (λ j l. level j (at.2 j l)) (ap is_level (here gate) ∙ lt-leb _ 65535 (ltb-true 65535 _ at.1)) in
           simp (levels_are, f.1, zero-add, f.0, here gate, isZ, isV)
+
+-- ---- the codes that are stored: n levels from one on, each with its bytes swapped twice, are as they were
+
+module _ (s : List ℕ) (from n : ℕ) (h : (from + n) * 4 ≤ length s) where
+  levels_long : length (take n (drop from (words s))) ≡ n
+  levels_long = length-take-le n (drop from (words s)) (omega (arith, length-drop from (words s), words_length s))
+
+  module _ (every : all is_level (words s) ≡ true) where
+    pub levels_back : map swap (map swap (take n (drop from (words s)))) ≡ take n (drop from (words s))
+    levels_back = all_back (take n (drop from (words s))) small
+      where
+        small : (i : ℕ) → get_or (take n (drop from (words s))) i 0 ≤ 65535
+        small i = go (ltb i n) refl
+          where
+            go : (b : Bool) → ltb i n ≡ b → get_or (take n (drop from (words s))) i 0 ≤ 65535
+            go true t = rw (get_or-take n (drop from (words s)) i 0 (ltb-true i n t), get_or-drop from (words s) i 0) (each_level (words s) (from + i) every)
+            go false t = rw (get_or-eq_default (take n (drop from (words s))) 0 {n = i} (omega (arith, levels_long, ltb-false i n t))) (omega arith)

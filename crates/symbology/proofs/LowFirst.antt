@@ -65,7 +65,7 @@ raw_half s at {w} {z} small none h =
     rw (same, h, e) (halves _ _ _ _ (small at) (small (at + 1)) (small (at + 2)) (small (at + 2 + 1)))
 
 -- swapped twice, a halfword is as it was
-swap_back : (h : ℕ) → h ≤ 65535 → swap (swap h) ≡ h
+pub swap_back : (h : ℕ) → h ≤ 65535 → swap (swap h) ≡ h
 swap_back h l = omega arith
 
 pub all_back : (s : List ℕ) → ((i : ℕ) → get_or s i 0 ≤ 65535) → map swap (map swap s) ≡ s

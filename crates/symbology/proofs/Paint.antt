@@ -5,6 +5,7 @@ use lib.ListN.{length-replicate, replicate-append-replicate}
 use lib.Seq.{take-append-add, take-append-le}
 use borrow.Rule.Slice.PartMut.{put_mid}
 use mathlib.Core.List.{map-append}
+use Rattle.wire.proofs.Parts.{part_take, part_long}
 use Rattle.symbology.specs.Rows.{run_of, colour_of, reach, cells}
 use Rattle.symbology.proofs.RunLoops.{left_cons, Reached, reached_end, reached_over, reached_turn}
 
@@ -65,7 +66,8 @@ module _ {A : Type 0} {cell : ℕ → A} {runs : List ℕ} {row₀ row : List A}
     painted_over h = stop (reached_over inv.reached inside here (rw inv.long at h))
 
     -- the run's cells stand after those that were there
-    painted_on : (row' : List A) → run ≤ length row - gate → length row' ≡ length row → take (gate + run) row' ≡ take gate row ++ replicate run (cell (colour_of b))
+    pub painted_on : (row' : List A) → run ≤ length row - gate → length row' ≡ length row
+        → take (gate + run) row' ≡ take gate row ++ replicate run (cell (colour_of b))
         → Painted cell runs row₀ row' (i + 1) (gate + run)
     painted_on row' h long front =
         let k : length row₀ - gate ≡ run_of b + (length row₀ - (gate + run)) = omega (arith, inv.long) in
@@ -74,6 +76,12 @@ module _ {A : Type 0} {cell : ℕ → A} {runs : List ℕ} {row₀ row : List A}
           long = long ∙ inv.long;
           known = inv.known ∙ rw (front, append_assoc, k, left_cons runs i inside, ← is, many) (ap (λ (l : List A). take gate row ++ l) (cells_more cell b _ _));
         }
+
+    -- a run of no cells
+    pub painted_none : run ≡ 0 → Painted cell runs row₀ row (i + 1) gate
+    painted_none e =
+        let z : gate + run ≡ gate = omega arith in
+        rw z at (painted_on row (omega arith) refl (rw (z, e) (sym (append-nil _))))
 
     pub painted_turn : (ys : List A) {v : A} → run ≤ 16 → run ≤ length row - gate → length ys ≡ length row - gate → v ≡ cell (colour_of b)
         → ys ≡ replicate (min 16 (length (take (length row - gate) (drop gate row)))) v ++ drop 16 (take (length row - gate) (drop gate row))
@@ -85,3 +93,16 @@ module _ {A : Type 0} {cell : ℕ → A} {runs : List ℕ} {row₀ row : List A}
         let within : gate ≤ length row = omega (arith, inv.reached.within, inv.long) in
         painted_on (put_mid gate (length row - gate) row ys) h (put_long row ys gate within long)
         (take_past gate run row _ within ∙ rw (take-append-le run ys (drop (length row - gate) (drop gate row)) (omega (arith, long)), front))
+
+    -- a part of just these places comes back filled with the run's cell
+    pub painted_run : (ys : List A) {v : A} → run ≤ length row - gate → v ≡ cell (colour_of b)
+        → ys ≡ replicate (length (take (gate + run - gate) (drop gate row))) v
+        → Painted cell runs row₀ (put_mid gate (gate + run - gate) row ys) (i + 1) (gate + run)
+    painted_run ys {v} h colour whole =
+        let n : gate + run - gate ≡ run = omega arith in
+        let inner : gate + run ≤ length row = omega (arith, inv.reached.within, inv.long) in
+        let size : length (take run (drop gate row)) ≡ run = length-take-le run (drop gate row) (omega (arith, length-drop gate row)) in
+        let same : ys ≡ replicate run (cell (colour_of b)) = (rw (n, size, colour) at whole) in
+        let many : length ys ≡ run = ap length same ∙ length-replicate run (cell (colour_of b)) in
+        painted_on (put_mid gate (gate + run - gate) row ys) h (part_long row ys gate run inner many)
+        (part_take row ys gate run inner many ∙ ap (λ (l : List A). take gate row ++ l) same)

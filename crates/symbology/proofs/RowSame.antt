@@ -34,7 +34,7 @@ bytes_back (suc n) (x ∷ x' ∷ x'' ∷ x''' ∷ a) (y ∷ y' ∷ y'' ∷ y''' 
     let four : x''' ≡ y''' = omega (arith, number, p 0, p 1, p 2, p 3, q 0, q 1, q 2, q 3) in
     cc
 
-full_28 : (packet : Packet) (n : ℕ) (s : List ℕ) → packet ≡ Packet28 → FullRow packet n s → length s ≡ n * 4
+pub full_28 : (packet : Packet) (n : ℕ) (s : List ℕ) → packet ≡ Packet28 → FullRow packet n s → length s ≡ n * 4
 unfolding FullRow
 full_28 packet n s e h = (rw e at h).0
 

@@ -8,6 +8,7 @@ use Rattle.wire.specs.Result.{accepted, refused}
 use Rattle.wire.specs.Reading.{Flat, give, ◌>>◌, refuse_if, Ended, passed, halted, onward, walk}
 use Rattle.wire.proofs.Readings.{walk_then, walk_check, walk_checks, Parts, parts, parts_by, passed_check, walk_give}
 use Rattle.xdr.proofs.Items.{array_count_end}
+use Rattle.xdr.proofs.Onward.{from, check_by, check_next}
 use Rattle.xdr.specs.Xdr.{at_least0}
 use Rattle.symbology.specs.Symbology.{xdr_frame}
 use Rattle.symbology.specs.Walk.{expected_of, frame_tested, xdr_radial_span, placed}
@@ -40,7 +41,7 @@ module _ {B : Type 0} (radials r : ℕ) (own : ℤ) (expected : Option ℕ) (n :
     four false false false true x₁ x₂ x₃ x₄ = refl
     four false false false false x₁ x₂ x₃ x₄ = refl
 
-    tests_are : walk Tested s p ≡ onward (frame_tested radials r own expected n p) (λ _ q. walk u s q)
+    pub tests_are : walk Tested s p ≡ onward (frame_tested radials r own expected n p) (λ _ q. walk u s q)
     unfolding frame_tested ◌>>◌
     tests_are = walk_checks _ _ _ s p (walk_checks _ _ _ s p (walk_checks _ _ _ s p (walk_check _ _ _ s p))) ∙ four (le_z own (pos 0)) (not (eqb (at_least0 own) (expected_of expected (at_least0 own)))) (not (eqb n (at_least0 own))) (eqb r 0 && ltb 4000000 (radials * at_least0 own))
         (kind 29 (nat radials ∷ whole own ∷ [])) (kind 31 (nat r ∷ nat (at_least0 own) ∷ nat (expected_of expected (at_least0 own)) ∷ []))
@@ -52,6 +53,16 @@ module _ {B : Type 0} (radials r : ℕ) (own : ℤ) (expected : Option ℕ) (n :
   pub tests_on : {c c' : XdrCursor} {r' : Std.Result B Level3DecodeError} → passed tt c.pos ≡ frame_tested radials r own expected n c.pos → Leaves (read_at u c) r' c c'
       → Leaves (read_at Tested c) r' c c'
   tests_on {c} h k = record { answered = k.answered ∙ sym (tests_are c.buf.now c.pos ∙ ap (λ y. onward y (λ _ p. walk u c.buf.now p)) (sym h)); kept = k.kept }
+
+  -- and of a reading that goes on from where another ended
+  pub frame_checked : (s : List ℕ) (e : Ended (Unit {0})) {w : Ended (Unit {0})} {y : Ended B}
+      → w ≡ onward e (λ _ p. frame_tested radials r own expected n p) → y ≡ from u s w → y ≡ from Tested s e
+  unfolding frame_tested
+  frame_checked s e h k =
+      check_next _ _ _ s e _ h λ h₁.
+      check_next _ _ _ s _ _ h₁ λ h₂.
+      check_next _ _ _ s _ _ h₂ λ h₃.
+      check_by _ _ _ s _ h₃ k
 
 first_cells : (r cells : ℕ) → r ≡ 0 → (eqb r 0 && ltb 4000000 cells) ≡ false → cells ≤ 4000000
 first_cells zero cells h k = ltb-false _ _ k

@@ -59,6 +59,10 @@ pub(crate) fn write_runs<T: Cell>(runs: &[u8], row: &mut [T])
     for b in runs {
         let b = u16::from(*b);
         let run = usize::from(b / 16);
+        // Writes nothing.
+        if run == 0 {
+            continue;
+        }
         if row.len() - gate < run {
             return;
         }

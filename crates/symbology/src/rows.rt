@@ -5,6 +5,7 @@ ghost use Rattle.wire.specs.Result.{accepted, answer, then};
 ghost use Rattle.std.specs.List.{position};
 ghost use Rattle.std.specs.Int.{w32, from_be_bytes};
 ghost use Rattle.wire.specs.Text.{all};
+ghost use Rattle.symbology.specs.Runs.{sum_runs};
 ghost use Rattle.symbology.specs.Rows.{reach, row_af1f, words, is_level, levels, row_of, codes_of, FullRow};
 ghost use Rattle.symbology.specs.Walk.{kept_of, Ready, cells_from, mark_from};
 ghost use Rattle.wire.specs.Reading.{marked};
@@ -105,13 +106,35 @@ fn write_bytes(src: &[u8], row: &mut [u16])
 
 // ---- packet AF1F
 
+// The sum of up to 16 run lengths, which a byte holds.
+fn block_sum(runs: &[u8]) -> usize
+    requires { length runs.now ≤ 16 }
+    ensures { result ≡ sum_runs runs.now }
+{
+    let mut sum: u8 = 0;
+    for b in runs {
+        sum += *b / 16;
+    }
+    usize::from(sum)
+}
+
 // The greatest sum of a prefix of the run lengths that is not over n.
 #[tactic(auto, unfolding(crate::specs::Rows::reach))]
 pub(crate) fn rle_reach(runs: &[u8], n: usize) -> usize
     ensures { result ≡ reach n runs.now }
 {
     let mut gate: usize = 0;
-    for b in runs {
+    let mut at: usize = 0;
+    // Blocks that are not over n as a whole: one sum for 16 runs. Not `chunks`: what follows begins where they end.
+    while 16 <= runs.len() - at {
+        let sum = block_sum(&runs[at..at + 16]);
+        if n - gate < sum {
+            break;
+        }
+        gate += sum;
+        at += 16;
+    }
+    for b in &runs[at..] {
         let run = usize::from(*b / 16);
         if n - gate < run {
             return gate;

@@ -123,12 +123,17 @@ adding_end {ends = []} a h = omega (arith, a.left)
 adding_end {ends = e ∷ ends} {rates = rates} a (inl h) = absurd (omega arith)
 adding_end {ends = e ∷ ends} {rates = rates} a (inr h) = absurd (omega (arith, a.equal))
 
+-- the first band and the others
+pub first_band : (total from to rate : ℕ) (ends rates : List ℕ)
+    → sum (products (parts total from (to ∷ ends)) (rate ∷ rates)) ≡ (min total to - from) * rate + sum (products (parts total to ends) rates)
+unfolding parts products sum
+first_band total from to rate ends rates = refl
+
 -- one band more
 module _ {total added from whole to rate p : ℕ} {ends rates ends' rates' : List ℕ} (a : Adding total ends rates added from whole)
     (one : (ends ≡ to ∷ ends') × (rates ≡ rate ∷ rates')) (is : p ≡ min total to - from) where
   band : added + (p * rate + sum (products (parts total to ends') rates')) ≡ whole
-  unfolding parts products sum
-  band = rw is (rw (one.0, one.1) at a.left)
+  band = rw is (rw (one.0, one.1, first_band total from to rate ends' rates') at a.left)
 
   pub product_fits : p * rate ≤ 1099511627776 * 65535
   product_fits = omega (arith, band, a.few)
@@ -136,8 +141,8 @@ module _ {total added from whole to rate p : ℕ} {ends rates ends' rates' : Lis
   pub sum_fits : added + p * rate ≤ 1099511627776 * 65535
   sum_fits = omega (arith, band, a.few)
 
-  pub adding_next : Adding total ends' rates' (added + p * rate) to whole
-  adding_next = record { equal = omega (arith, rw (one.0, one.1) at a.equal); left = omega (arith, band); few = a.few }
+  pub adding_next : {sum' : ℕ} → sum' ≡ added + p * rate → Adding total ends' rates' sum' to whole
+  adding_next e = record { equal = omega (arith, rw (one.0, one.1) at a.equal); left = omega (arith, band, e); few = a.few }
 
 -- ---- the answers of `rain_charge`
 

@@ -44,6 +44,7 @@ fn is_well_formed(ends: &[u64], rates: &[u32]) -> bool
 }
 
 // What all bands add up to: the part of the total inside each band times its rate, in thousandths of a cent.
+#[tactic(auto, using(crate::proofs::Dues::first_band))]
 fn sum_of(total: u64, ends: &[u64], rates: &[u32]) -> u64
     requires { (well_formed ends.now rates.now ≡ true) × (total ≤ limit) }
     ensures { result ≡ due total ends.now rates.now }

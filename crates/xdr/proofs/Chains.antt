@@ -96,7 +96,7 @@ module _ {A B : Type 0} (t : Flat A) (f : A → Flat B) {c c' : XdrCursor} where
   end_no h = record { answered = ap done (then_halted f t c.buf.now c.pos h.answered); kept = h.kept }
 
 -- a value worked out of the one that was read
-done_given : {A B : Type 0} (t : Flat A) (g : A → B) (s : List ℕ) (p : ℕ) → done (walk {W = ⊥} (t >>= λ a. give (g a)) s p) ≡ done (walk t s p)
+pub done_given : {A B : Type 0} (t : Flat A) (g : A → B) (s : List ℕ) (p : ℕ) → done (walk {W = ⊥} (t >>= λ a. give (g a)) s p) ≡ done (walk t s p)
 unfolding walk
 done_given {A} t g s p = ap done (walk_then {W = ⊥} (λ a. give (g a)) t s p) ∙ go (walk t s p)
   where

@@ -11,7 +11,7 @@ use lib.Dec.{ltb}
 use borrow.Author.Tests.{lt-ltb, le-ltb, ltb-false}
 use Rattle.wire.specs.Bytes.{u32_at}
 use Rattle.wire.specs.Refusal.{Refusal, kind, nat, item}
-use Rattle.wire.specs.Reading.{Read, give, ◌>>=◌, ◌>>◌, remaining, u32, unread, Ended, passed, halted, onward, walk}
+use Rattle.wire.specs.Reading.{Read, Flat, give, ◌>>=◌, ◌>>◌, remaining, u32, unread, Ended, passed, halted, onward, walk}
 use Rattle.wire.specs.Text.{is_zero, trim_end}
 use Rattle.wire.specs.declared.error.XdrItem.{XdrItem}
 use Rattle.wire.specs.declared.error.XdrItem.TheVariants as Item
@@ -58,6 +58,12 @@ module _ (i : XdrItem) (s : List ℕ) (p : ℕ) where
 
   pub word_value : (have v : ℕ) → have ≡ length s - p → v ≡ u32_at s p → 4 ≤ have → passed v (p + 4) ≡ walk (word i) s p
   word_value have v e k h = rw (word_is, ← e, ← k) (simp (le-ltb _ _ h))
+
+-- a value worked out of the one that was read
+pub given : {A B : Type 0} (g : A → B) (t : Flat A) (s : List ℕ) (p : ℕ) {a : A} {b : B} {q : ℕ} → passed a q ≡ walk t s p → b ≡ g a
+    → passed b q ≡ walk {W = ⊥} (t >>= λ x. give (g x)) s p
+unfolding walk
+given g t s p e k = rw k (sym (then_passed {W = ⊥} (λ x. give (g x)) t s p e))
 
 -- ---- strings
 

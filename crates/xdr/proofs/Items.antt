@@ -56,7 +56,7 @@ module _ (i : XdrItem) (n : ℕ) (s : List ℕ) (p : ℕ) where
 -- ---- where items end
 
 module _ (i : XdrItem) (s : List ℕ) (p : ℕ) where
-  word_end : (v q : ℕ) → passed v q ≡ walk (word i) s p → (q ≡ p + 4) × (q ≤ length s)
+  pub word_end : (v q : ℕ) → passed v q ≡ walk (word i) s p → (q ≡ p + 4) × (q ≤ length s)
   unfolding word u32 walk
   word_end v q e =
       let t = parts_by (short i 4) u32 s p e in

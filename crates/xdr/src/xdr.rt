@@ -153,7 +153,14 @@ impl<'a> XdrCursor<'a> {
         }
         // No `From` makes a `usize` of a `u32`.
         let n = len as usize;
-        self.need(XdrItem::ArrayBody, n * 4)?;
+        let left = self.bytes_remaining();
+        if left < n * 4 {
+            return Err(Level3DecodeError::XdrTruncated {
+                context: XdrItem::ArrayBody,
+                have: left,
+                need: n * 4,
+            });
+        }
         Ok(n)
     }
 

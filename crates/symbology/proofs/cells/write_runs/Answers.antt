@@ -1,6 +1,9 @@
 use Rattle.std.proofs.Common.{arith, rules}
-use Rattle.symbology.proofs.Paint.{painted_end, painted_over, painted_turn}
+use Rattle.symbology.proofs.Paint.{painted_end, painted_none, painted_over, painted_turn}
 use Rattle.symbology.proofs.cells.write_runs.Goals as goal
+
+pub loop-b-preserved-then-run-eq0 : goal.loop-b-preserved-then-run-eq0
+loop-b-preserved-then-run-eq0 g c = painted_none c.requires c.loop-b.invariant (omega arith) c.from-b.ensures c.from-run.ensures c.if-run-eq0.true
 
 pub returns-then-row-gate : goal.returns-then-row-gate
 returns-then-row-gate g c = painted_over c.requires c.loop-b.invariant (omega arith) c.from-b.ensures c.from-run.ensures c.if-row-gate.true

@@ -1,8 +1,6 @@
-use Rattle.std.proofs.Common.{ap, ap₂, ◌∙◌}
-use Rattle.wire.specs.Result.{answer, then}
-use Rattle.wire.proofs.Results.{both}
-use Rattle.symbology.proofs.Decode.{admit_is}
+use Rattle.symbology.proofs.Decode.{used, admitted}
 use Rattle.symbology.proofs.symbology.test_terms.Goals as goal
 
+-- the tests of use as one, or each by itself
 pub returns : goal.returns
-returns c = ap answer c.and.ensures ∙ both _ _ ∙ ap₂ (λ r q. then r λ _. q) c.test_use.ensures c.test_room.ensures ∙ admit_is _ _ _ _
+returns c = search (used, admitted)

@@ -18,7 +18,7 @@ pub overflow_add-sum : goal.overflow_add-sum
 overflow_add-sum c = rw c.from-rate.ensures (omega (arith, sum_fits c.loop-to.invariant c.in-Some.ensures.steps (c.saturating_sub-part.ensures ∙ ap (λ n. n - c.loop-to.from) c.min.ensures)))
 
 pub loop-to-preserved : goal.loop-to-preserved
-loop-to-preserved c = rw c.from-rate.ensures (adding_next c.loop-to.invariant c.in-Some.ensures.steps (c.saturating_sub-part.ensures ∙ ap (λ n. n - c.loop-to.from) c.min.ensures))
+loop-to-preserved c = rw c.from-rate.ensures (adding_next c.loop-to.invariant c.in-Some.ensures.steps (c.saturating_sub-part.ensures ∙ ap (λ n. n - c.loop-to.from) c.min.ensures) (omega arith))
 
 pub returns : goal.returns
 returns c = adding_end c.loop-to.invariant (⊎_elim (λ h. inl h.1.0) (λ h. inr h.1.0) c.in-None.ensures.steps)
