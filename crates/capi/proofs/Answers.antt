@@ -20,7 +20,7 @@ by_report {n = n} {ints = ints} {ints' = ints'} {floats = floats} {floats' = flo
 
 -- ---- the thresholds
 
-threshold_good : (file : List ℕ) (block n : ℕ) → n ≡ 32 → threshold_said file block n ≡ said (threshold_place file block)
+pub threshold_good : (file : List ℕ) (block n : ℕ) → n ≡ 32 → threshold_said file block n ≡ said (threshold_place file block)
 unfolding threshold_said
 threshold_good file block n h = simp (eq-eqb n 32 h)
 

@@ -1,13 +1,14 @@
 -- The records of a plan, one after the other, as the loops over them meet them. Assumes nothing.
 use Rattle.std.specs.Prelude.{Option, Some, option_map, find, filter}
+use Rattle.wire.specs.Bytes.{u16_at}
 use mathlib.Core.Path.{◌≡◌, refl, sym, ◌∙◌}
 use mathlib.Core.Bool.{Bool, true, false, cond, ◌&&◌}
 use mathlib.Core.List.{List, [], ◌∷◌}
 use Prim.Native.Nat.{ℕ, zero, suc, ◌+◌, ◌-◌, ◌≤◌, ◌<◌}
 use native.Mathlib.Omega.{arith}
-use lib.Dec.{leb}
-use lib.ListN.{length}
-use borrow.Author.Tests.{le-leb, lt-leb}
+use lib.Dec.{eqb, leb}
+use lib.ListN.{length, get_or}
+use borrow.Author.Tests.{le-leb, lt-leb, leb-true}
 use Rattle.fields.specs.declared.plan.Entry.{Entry}
 use Rattle.fields.specs.declared.plan.Record.{Record}
 use Rattle.fields.specs.declared.plan.Record.TheVariants.{Field, Strip, Malformed}
@@ -16,6 +17,20 @@ use Rattle.fields.specs.Plan.{record_at, size_of, fields_in, after, entries_in, 
 pub and_both : (a : Bool) {b : Bool} → (a && b) ≡ true → (a ≡ true) × (b ≡ true)
 and_both true h = (refl, h)
 and_both false h = let z : ◌≡◌ {A = ℕ} 0 1 = cc in absurd (omega arith)
+
+-- a record lies inside the plan
+size_in : (b d : Bool) (n r g c w at len : ℕ) → (b ≡ true → at + 5 ≤ len) → (d ≡ true → at + 11 ≤ len) → at ≤ len
+    → at + size_of (cond b (Field n) (cond d (Strip r g c w) Malformed)) ≤ len
+size_in true d n r g c w at len h k i = h refl
+size_in false true n r g c w at len h k i = k refl
+size_in false false n r g c w at len h k i = omega arith
+
+pub record_inside : (plan : List ℕ) (at : ℕ) → at ≤ length plan → at + size_of (record_at plan at) ≤ length plan
+unfolding record_at
+record_inside plan at i =
+    size_in (leb (at + 5) (length plan) && (eqb (get_or plan at 0) 1 && eqb (u16_at plan (at + 1)) 2))
+    (leb (at + 11) (length plan) && (eqb (get_or plan at 0) 2 && eqb (u16_at plan (at + 1)) 8)) _ _ _ _ _ at (length plan)
+    (λ h. leb-true _ _ (and_both (leb (at + 5) (length plan)) h).0) (λ h. leb-true _ _ (and_both (leb (at + 11) (length plan)) h).0) i
 
 -- what follows a record counts only where it has a size
 after_same : (x : Record) {es fs : List Entry} → (1 ≤ size_of x → es ≡ fs) → after x es ≡ after x fs

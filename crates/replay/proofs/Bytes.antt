@@ -26,7 +26,7 @@ module _ (n : ℕ) (word : List ℕ) where
   unfolding bytes_in
   bytes_in_long = length-take-le _ _ (omega (arith, bytes_long word))
 
-  bytes_in_at : (i : ℕ) → i < length word / 2 → i < n → get_or (bytes_in n word) i 0 ≡ byte_of (get_or word (i * 2) 0) (get_or word (i * 2 + 1) 0)
+  pub bytes_in_at : (i : ℕ) → i < length word / 2 → i < n → get_or (bytes_in n word) i 0 ≡ byte_of (get_or word (i * 2) 0) (get_or word (i * 2 + 1) 0)
   unfolding bytes_in
   bytes_in_at i h k = get_or-take (min (length word / 2) n) (bytes_of word) i 0 (omega arith) ∙ bytes_at word i h
 

@@ -1,3 +1,4 @@
+pub mod BlankValues
 pub mod Decimals
 pub mod Digits
 pub mod Examples

@@ -1,3 +1,4 @@
+pub mod BlankValues
 pub mod Dates
 pub mod Endings
 pub mod Gaps

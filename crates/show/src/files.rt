@@ -10,7 +10,6 @@ fn read_up_to(rt: &impl Files, alloc: Global, path: &str, most: usize) -> io::Re
         // No `From` makes a `u64` of a `usize`.
         .take(most as u64)
         .read_to_end(&mut bytes)?;
-    bytes.shrink_to_fit();
     Ok(bytes)
 }
 

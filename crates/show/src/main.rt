@@ -86,7 +86,7 @@ fn run<R: Files + Eprint>(
         );
         return Ok(Ending::Failed);
     }
-    answer::show(out, alloc, asked, &file, &body)
+    answer::show(out, alloc, asked, &file, body)
 }
 
 // The file's first bytes, and its head by the system's clock; class has no scale fields, so that no scheme has a say.

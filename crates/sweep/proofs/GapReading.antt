@@ -9,7 +9,7 @@ use lib.Dec.{ltb}
 use native.Mathlib.Omega.{arith}
 use lib.ListN.{length, take, drop, length-map, length-append}
 use lib.Ieee.{Float}
-use borrow.Author.Tests.{ltb-false}
+use borrow.Author.Tests.{ltb-false, le-ltb}
 use Rattle.wire.specs.declared.error.Level3DecodeError.{Level3DecodeError}
 use Rattle.wire.specs.declared.error.Buffer.TheVariants as Buffer
 use Rattle.wire.specs.Refusal.{Refusal, kind, buffer, refusal_of}
@@ -24,7 +24,7 @@ use Rattle.symbology.specs.declared.figures.Terms.{Terms}
 use Rattle.sweep.specs.declared.plan.Head.{Head}
 use Rattle.wire.proofs.Results.{one_value, through, passed}
 use Rattle.sweep.specs.Sweep.{head_of, allowed, room_for, finish, sweep_with, terms_for, SweepAnswer}
-use Rattle.sweep.specs.GapSweep.{GapSweep, blanked, blanked_lent, gap_finish, gap_sweep_of, gap_sweep_in, gap_buffers, MarkedRan}
+use Rattle.sweep.specs.GapSweep.{GapSweep, blanked, blanked_lent, gap_finish, gap_sweep_of, gap_sweep_in, gap_room, gap_values_of, gap_buffers, MarkedRan}
 use Rattle.symbology.proofs.GapRows.{gap_sizes}
 use Rattle.sweep.proofs.Parts.{block_start}
 use Rattle.sweep.proofs.Reading.{asked_is, step_declared, swept, refused_in, given_in, front_is, Admitted, admitted, fills}
@@ -227,6 +227,32 @@ module _ {scheme : Scheme} {file : List ℕ} {clock : ℕ} {G : Result GapSweep}
         told az cs ph ms r
         (i ∙ ap (λ z. then z λ _. sweep_with h d f) filled ∙ ap (λ y. sweep_with h y f) is ∙ ap (sweep_with h (accepted drawn_here.admitted.declared)) (sym drawn_here.figures))
         (a ∙ ap (λ r. lent r (λ p. p.picture.azimuths) az) drawn_here.is) now_codes laid now_marks
+
+    -- the values are filled by a call of their own
+    abbrev Last : Result (List Float)
+    Last = gap_values_of scheme file h.block f cs' (length ph) (length ms')
+
+    last : Last ≡ Fill
+    unfolding gap_values_of gap_room
+    last =
+        rw (
+          le-ltb (length cs') (f.n_radials * f.n_bins) rooms.0,
+          le-ltb (length ph) (f.n_radials * f.n_bins) rooms.2,
+          le-ltb (length ms') f.n_radials rooms.1,
+        )
+
+    -- an answer of that call that can't be
+    pub last_accepts : {C : Type 0} {x : Refusal} → ◌≡◌ {A = Result (Unit {0})} (refused x) (then Last λ _. accepted tt) → C
+    last_accepts {C} {x} e =
+        let e' : ◌≡◌ {A = Result (Unit {0})} (refused x) (accepted tt) = e ∙ ap {B = Result (Unit {0})} (λ r. then r λ _. accepted tt) (last ∙ filled) in
+        let z : ◌≡◌ {A = ℕ} 0 1 = cc in
+        absurd (omega arith)
+
+    pub read_last : {r : SweepAnswer} {az' ph' : List Float} → answer r ≡ sweep_with h d f
+        → az' ≡ lent (decode (length az) (length cs) (length ms)) (λ p. p.picture.azimuths) az
+        → ph' ≡ blanked_lent Last f.n_bins (take f.n_radials ms') ph → MarkedRan G (gap_buffers az cs ph ms) (gap_buffers az' cs' ph' ms') r
+    read_last i a v =
+        read (i ∙ sym (ap (λ z. then z λ _. sweep_with h d f) filled)) a (v ∙ ap (λ z. blanked_lent z f.n_bins (take f.n_radials ms') ph) last)
 
 -- ---- one body
 

@@ -1,12 +1,14 @@
 -- The sweep reading with gaps (M-101): a radial whose data make no row gives a row of code 0, physical values NaN, and the mark 1. All other
 -- refusals keep condition and order; 36 covers the mark buffer, after the physical one.
-use Rattle.std.specs.Prelude.{ℕ, zero, suc, List, [], ◌∷◌, ◌++◌, ◌≡◌, ltb, length, take, drop, replicate, Float}
+use Rattle.std.specs.Prelude.{ℕ, zero, suc, ◌*◌, List, [], ◌∷◌, ◌++◌, ◌≡◌, ltb, length, take, drop, replicate, Float}
 use Rattle.std.specs.Float.{nan}
 use Rattle.wire.specs.Refusal.{kind, buffer}
 use Rattle.wire.specs.Result.{Result, accepted, answer, refused, refuse, then, lent}
 use Rattle.wire.specs.declared.error.Buffer.TheVariants as Buffer
+use Rattle.scale.specs.Physical.{fill_of}
 use Rattle.scale.specs.declared.physical.Scheme.{Scheme}
 use Rattle.symbology.specs.Answers.{GapPicture, gap_picture_of}
+use Rattle.symbology.specs.declared.figures.Figures.{Figures}
 use Rattle.sweep.specs.declared.plan.Head.{Head}
 use Rattle.sweep.specs.declared.sweep.Sweep.{Sweep}
 use Rattle.sweep.specs.Sweep.{head_of, finish, SweepAnswer}
@@ -57,6 +59,22 @@ gap_sweep_of scheme file clock body na nc np nm =
 
 abbrev pub gap_sweep_in : Result GapSweep → Result Sweep
 gap_sweep_in r = then r λ p. accepted p.sweep
+
+-- ---- the values alone, once the codes and the marks are written
+
+-- 36, of the first buffer that is too short: codes of `nc` places, physical values of `np`, marks of `nm`
+unfoldable pub gap_room : ℕ → ℕ → ℕ → Figures → Result (Unit {0})
+gap_room nc np nm f =
+    refuse (ltb nc (f.n_radials * f.n_bins)) (kind 36 (buffer Buffer.Codes ∷ []))
+    (refuse (ltb np (f.n_radials * f.n_bins)) (kind 36 (buffer Buffer.Physical ∷ []))
+    (refuse (ltb nm f.n_radials) (kind 36 (buffer Buffer.Marks ∷ []))
+    (accepted tt)))
+
+-- the values of a picture's cells, before NaN is laid over them
+unfoldable pub gap_values_of : Scheme → List ℕ → ℕ → Figures → List ℕ → ℕ → ℕ → Result (List Float)
+gap_values_of scheme file block f codes np nm =
+    then (gap_room (length codes) np nm f) λ _.
+    fill_of scheme file block (take (f.n_radials * f.n_bins) codes) np
 
 -- ---- a run of the code
 

@@ -1,6 +1,6 @@
 // The values of a picture with gaps, once its codes and marks are written.
 ghost use Rattle.std.specs.Prelude.{◌≡◌, ◌*◌, ◌≤◌, length, take};
-ghost use Rattle.wire.specs.Result.{answer, then};
+ghost use Rattle.wire.specs.Result.{accepted, answer, then};
 ghost use Rattle.scale.specs.Physical.{declared_scale, fill_of};
 ghost use Rattle.sweep.specs.Sweep.{sweep_with};
 ghost use Rattle.sweep.specs.GapSweep.{blanked, blanked_row, blanked_lent};
@@ -38,7 +38,32 @@ fn blank_gaps(marks: &[u8], n_bins: usize, physical: &mut [f32])
     }
 }
 
-// The values of the codes, NaN over the rows that are marked, and the answer.
+// The values of the codes, NaN over the rows that are marked.
+#[tactic(auto, unfolding(scale::specs::Physical::fill_of))]
+pub fn fill_cells(
+    file: &[u8],
+    scheme: Scheme,
+    block: usize,
+    figures: Figures,
+    codes: &[u16],
+    marks: &[u8],
+    physical: &mut [f32],
+) -> Result<(), Level3DecodeError>
+    requires { (figures.n_radials * figures.n_bins ≤ length codes.now) × (figures.n_radials ≤ length marks.now)
+        × (figures.n_radials * figures.n_bins ≤ length physical.old) }
+    ensures result_value { answer result ≡ then (fill_of scheme file.now block
+        (take (figures.n_radials * figures.n_bins) codes.now) (length physical.old)) (λ _. accepted tt) }
+    ensures physical_after { physical.new ≡ blanked_lent (fill_of scheme file.now block
+        (take (figures.n_radials * figures.n_bins) codes.now) (length physical.old))
+        figures.n_bins (take figures.n_radials marks.now) physical.old }
+{
+    let cells = figures.n_radials * figures.n_bins;
+    scale::physical::fill_physical(scheme, file, block, &codes[..cells], physical)?;
+    blank_gaps(&marks[..figures.n_radials], figures.n_bins, physical);
+    Ok(())
+}
+
+// The values, and the answer.
 #[tactic(auto, unfolding(scale::specs::Physical::declared_scale, scale::specs::Physical::fill_of))]
 pub fn fill_values(
     file: &[u8],
@@ -58,8 +83,6 @@ pub fn fill_values(
         (take (figures.n_radials * figures.n_bins) codes.now) (length physical.old))
         figures.n_bins (take figures.n_radials marks.now) physical.old }
 {
-    let cells = figures.n_radials * figures.n_bins;
-    scale::physical::fill_physical(scheme, file, head.block, &codes[..cells], physical)?;
-    blank_gaps(&marks[..figures.n_radials], figures.n_bins, physical);
+    fill_cells(file, scheme, head.block, figures, codes, marks, physical)?;
     crate::sweep::accepted(head, figures)
 }

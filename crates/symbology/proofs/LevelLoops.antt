@@ -64,7 +64,7 @@ module _ (s : List ℕ) {ints : List (List ℕ)} (front : ints ≡ first_chunks 
 -- ---- the codes that are stored: n levels from one on, each with its bytes swapped twice, are as they were
 
 module _ (s : List ℕ) (from n : ℕ) (h : (from + n) * 4 ≤ length s) where
-  levels_long : length (take n (drop from (words s))) ≡ n
+  pub levels_long : length (take n (drop from (words s))) ≡ n
   levels_long = length-take-le n (drop from (words s)) (omega (arith, length-drop from (words s), words_length s))
 
   module _ (every : all is_level (words s) ≡ true) where
